@@ -1,0 +1,3 @@
+pub mod Quotes
+pub mod Refused
+pub mod Settings
