@@ -10,7 +10,7 @@ use lib.ListN.{length, getD, take, drop, take-append-drop}
 use Rattle.std.proofs.shelf.Tests.{cond-both, and-parts, eqb-true, eqb-false}
 use Rattle.script.specs.declared.items.Item.{Item}
 use Rattle.script.specs.Brackets.{after}
-use Rattle.script.specs.Items.{span, front, Reads, part, sortOf, sort}
+use Rattle.script.specs.Items.{span, front, Reads, part, Sorted}
 
 -- an item ends at the end of the text or at a space
 pub stops : (d : ℕ) (bs : List ℕ) → (drop (span d bs) bs ≡ []) ⊎ (getD (drop (span d bs) bs) 0 0 ≡ 32)
@@ -20,7 +20,7 @@ stops d (b ∷ bs) =
     (λ e. inr (eqb-true b 32 (and-parts (eqb d 0) (eqb b 32) e .1))) (λ _. stops (after d b) bs)
 
 -- what a reader has to show once it has cut the text
-pub read : (text : List ℕ) (place : ℕ) (i : Item) (rest : List ℕ) → part i .bytes .now ≡ take (span 0 text) text → rest ≡ drop (span 0 text) text → eqb (length (part i .bytes .now)) 0 ≡ false → sortOf i ≡ sort (part i .bytes .now) → part i .place ≡ place → Reads text place i rest
+pub read : (text : List ℕ) (place : ℕ) (i : Item) (rest : List ℕ) → part i .bytes .now ≡ take (span 0 text) text → rest ≡ drop (span 0 text) text → eqb (length (part i .bytes .now)) 0 ≡ false → Sorted i → part i .place ≡ place → Reads text place i rest
 read text place i rest front back some sorted placed =
     let here = stops 0 text in
     record {

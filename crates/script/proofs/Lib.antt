@@ -1,3 +1,5 @@
+mod Cuts
 mod Fronts
 mod Scans
+mod Threes
 mod Values
