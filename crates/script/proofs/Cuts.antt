@@ -43,7 +43,7 @@ form-no-number (b ∷ bs) h =
     let opens = eqb-true b 40 (and-parts (eqb b 40) _ h .0) in
     rw opens refl
 
-following-next : (place b : ℕ) (text x more : List ℕ) → x ≡ front text → x ++ more ≡ text → following place (b ∷ text) ≡ record { place = place + 1; bytes = x } ∷ following (place + 1 + length x) more
+pub following-next : (place b : ℕ) (text x more : List ℕ) → x ≡ front text → x ++ more ≡ text → following place (b ∷ text) ≡ record { place = place + 1; bytes = x } ∷ following (place + 1 + length x) more
 following-next place b text x more is whole =
     let back : more ≡ drop (span 0 text) text = append-cancel-left x more (drop (span 0 text) text) (whole ∙ sym (take-append-drop (span 0 text) text) ∙ ap (λ l. l ++ drop (span 0 text) text) (sym is)) in
     ap (placed (place + 1)) (cut-front 0 text) ∙ sym (λ k. placed (place + 1) (is k ∷ rest-cut (back k))) ∙ ap (λ ps. record { place = place + 1; bytes = x } ∷ ps) (later more)

@@ -1,5 +1,7 @@
 mod Cuts
 mod Fronts
+mod Lines
 mod Scans
+mod Spelling
 mod Threes
 mod Values

@@ -7,23 +7,30 @@
 --                a missing one is at the closing bracket, whose place is `end`
 --   misnumbered  the place of the first number that has a leading zero or is too large
 --   quoteOf      the quote form of these pieces, or its flaw: any mismatch goes before any misnumbered piece
+--   wordOf       the form that the first piece names, of the others; the closing bracket stands at `end`
+--   inner        what stands between the brackets of a line
+--   inside       the pieces there, the first at place 2; nothing is no piece, and not an empty one
+--   whole        a line of at most 200 bytes, with room for it in the script, that is one bracketed form
+--   formOf       the form that a line holds, or its flaw
 use mathlib.Core.Path.{_≡_}
-use mathlib.Core.Bool.{Bool, true, cond, not, _&&_}
+use mathlib.Core.Bool.{Bool, true, false, cond, not, _&&_}
 use mathlib.Core.List.{List, [], _∷_, _++_, map}
-use Prim.Native.Nat.{ℕ, _+_}
-use lib.Dec.{eqb}
+use Prim.Native.Nat.{ℕ, _+_, _-_}
+use lib.Chars.{codes}
+use lib.Dec.{eqb, leb}
 use lib.ListN.{length, getD}
 use Rattle.std.specs.declared.option.Option.{Option}
 use Rattle.std.specs.declared.option.Option.the-variants.{None, Some}
 use Rattle.std.specs.declared.result.Result.{Result}
 use Rattle.std.specs.declared.result.Result.the-variants.{Ok, Err}
 use Rattle.std.specs.Options.{isSome}
+use Rattle.std.specs.shelf.Lists.{between}
 use Rattle.script.specs.declared.flaws.Flaw.{Flaw}
 use Rattle.script.specs.declared.flaws.Flaw.the-variants.{NotAForm, UnknownWord, WrongItem, WrongNumber}
 use Rattle.script.specs.declared.forms.Form.{Form}
 use Rattle.script.specs.declared.forms.Form.the-variants.{Quote}
 use Rattle.script.specs.declared.items.Part.{Part}
-use Rattle.script.specs.Brackets.{after}
+use Rattle.script.specs.Brackets.{after, fills}
 use Rattle.script.specs.Items.{front}
 use Rattle.script.specs.Numerals.{numeral, valued, read}
 
@@ -76,6 +83,30 @@ threeNumbers = numeral ∷ numeral ∷ numeral ∷ []
 abbrev pub quoteOf : ℕ → List Piece → Result Form Flaw
 quoteOf end xs = sortsOf (mismatch threeNumbers end xs) (numbersOf (misnumbered xs) (Quote (value xs 0) (value xs 1) (value xs 2)))
 
+-- whether two texts are the same
+abbrev pub same : List ℕ → List ℕ → Bool
+same [] [] = true
+same [] (y ∷ ys) = false
+same (x ∷ xs) [] = false
+same (x ∷ xs) (y ∷ ys) = eqb x y && same xs ys
+
+abbrev pub wordOf : ℕ → List Piece → Result Form Flaw
+wordOf end [] = Err (WrongItem end)
+wordOf end (x ∷ xs) = cond (same (x .bytes) (codes "quote")) (quoteOf end xs) (Err (UnknownWord (x .place)))
+
+abbrev pub inside : List ℕ → List Piece
+inside [] = []
+inside (b ∷ bs) = placed 2 (cut 0 (b ∷ bs))
+
+abbrev pub inner : List ℕ → List ℕ
+inner line = between 1 (length line - 1) line
+
+abbrev pub whole : ℕ → List ℕ → Bool
+whole room line = leb (length line) 200 && (leb (length line) room && fills line)
+
+abbrev pub formOf : ℕ → List ℕ → Result Form Flaw
+formOf room line = cond (whole room line) (wordOf (length line) (inside (inner line))) (Err NotAForm)
+
 -- What the readers of numbers say, where `rest` is empty or begins with the space at `place`.
 --   nextPlace      where the next piece begins, or would
 --   noNumber       there is no next piece, or it is no number
@@ -108,3 +139,8 @@ pub record Misses (end : ℕ) (xs : List Piece) (e : Flaw) : Type 0 where
   pub at : ℕ
   pub is : e ≡ WrongItem at
   pub miss : mismatch threeNumbers end xs ≡ Some at
+
+-- What the first word selects, where `rest` follows it.
+pub record ByWord (w : Piece) (rest : List ℕ) (r : Result Form Flaw) : Type 0 where
+  pub quote : w .bytes ≡ codes "quote" → r ≡ quoteOf (w .place + length (w .bytes) + length rest) (following (w .place + length (w .bytes)) rest)
+  pub other : (w .bytes ≡ codes "quote" → ⊥) → r ≡ Err (UnknownWord (w .place))

@@ -1,24 +1,32 @@
 // The form that a line holds. Every item is looked at for its sort before any number is read.
 ghost use mathlib.Core.Path.{_≡_};
 ghost use mathlib.Core.Bool.{true};
-ghost use Prim.Native.Nat.{_+_, _<_, _^_};
+ghost use Prim.Native.Nat.{_+_, _≤_, _<_, _^_};
 ghost use lib.ListN.{length};
 ghost use Rattle.std.specs.Options.{okOr};
 ghost use Rattle.std.specs.Results.{Cases};
 ghost use Rattle.script.specs.declared.flaws.Flaw.the-variants.{WrongItem, WrongNumber};
-ghost use Rattle.script.specs.Forms.{NextNumber, nextPlace, noNumber, ThreeNumbers, Misses, following, quoteOf};
+ghost use Rattle.script.specs.Forms.{NextNumber, nextPlace, noNumber, ThreeNumbers, Misses, piece, following, inside, whole, quoteOf, ByWord, wordOf, formOf};
 ghost use Rattle.script.specs.Numerals.{read};
+use crate::brackets::is_form;
 use crate::flaws::Flaw;
 use crate::items::Item;
 use crate::items::Part;
 use crate::items::read_item;
 use crate::numerals::value_of;
 
+/// The longest line that is read.
+const LINE_BYTES: usize = 200;
+
 /// A form with the values of its items.
 #[derive(Clone, Copy)]
 pub enum Form {
     /// The round that a ring of `size` and `tolerance` is quoted at, where `sound` switches are sound.
-    Quote { size: u32, tolerance: u32, sound: u32 },
+    Quote {
+        size: u32,
+        tolerance: u32,
+        sound: u32,
+    },
 }
 
 /// The next item, a number, and what follows it. `rest` is empty or begins with a space, at `place` of the line.
@@ -76,5 +84,55 @@ fn read_quote(rest: &[u8], place: usize) -> Result<Form, Flaw>
     let size = number(size)?;
     let tolerance = number(tolerance)?;
     let sound = number(sound)?;
-    Ok(Form::Quote { size, tolerance, sound })
+    Ok(Form::Quote {
+        size,
+        tolerance,
+        sound,
+    })
+}
+
+/// The reader that the first word selects takes what follows it.
+fn read_by_word(word: Part<'_>, rest: &[u8]) -> Result<Form, Flaw>
+    requires { ⌜ word .place + length (word .bytes .now) + length (now rest) < 2 ^ 64 ⌝ }
+    ensures { λ r. ⌜ ByWord (piece (word .entry)) (now (rest .entry)) r ⌝ }
+{
+    match word.bytes {
+        b"quote" => read_quote(rest, end(&word)),
+        _ => Err(Flaw::UnknownWord(word.place)),
+    }
+}
+
+/// What stands between the brackets of a line.
+fn read_inside(text: &[u8]) -> Result<Form, Flaw>
+    requires { ⌜ length (now text) + 2 < 2 ^ 64 ⌝ }
+    ensures { λ r. ⌜ r ≡ wordOf (length (now (text .entry)) + 2) (inside (now (text .entry))) ⌝ }
+{
+    if text.is_empty() {
+        return Err(Flaw::WrongItem(2));
+    }
+    let Some((item, rest)) = read_item(text, 2) else {
+        return Err(Flaw::UnknownWord(2));
+    };
+    match item {
+        Item::Word(word) => read_by_word(word, rest),
+        Item::Number(_) | Item::Form(_) => Err(Flaw::UnknownWord(2)),
+    }
+}
+
+/// Whether a line is short enough and one bracketed form.
+fn is_whole(line: &[u8], room: usize) -> bool
+    ensures value { λ r. ⌜ r ≡ whole room (now (line .entry)) ⌝ }
+    ensures bracketed { λ r. ⌜ (r ≡ true → 2 ≤ length (now (line .entry))) ⌝ }
+{
+    line.len() <= LINE_BYTES && line.len() <= room && is_form(line)
+}
+
+/// The form that a line holds. `room` is how many bytes the script has room for where the line begins.
+pub fn read_form(line: &[u8], room: usize) -> Result<Form, Flaw>
+    ensures { λ r. ⌜ r ≡ formOf room (now (line .entry)) ⌝ }
+{
+    if !is_whole(line, room) {
+        return Err(Flaw::NotAForm);
+    }
+    read_inside(&line[1..line.len() - 1])
 }

@@ -25,7 +25,7 @@ returns-in-Break-first c =
     rw (p .1, p .2) (record { at = _; is = e .0; miss = stops (begins (c .args .place) (c .args .rest .now)) (e .1) })
 
 pub returns-in-Break-second : need.returns-in-Break-second
-returns-in-Break-second c = 
+returns-in-Break-second c =
     let p = err-from-errBy (c .from-residual-in-Break-second .result) (c .from-residual-in-Break-second .ensures .1) in
     let e = c .in-Break-second .ensures tt in
     rw (p .1, p .2) (record { at = _; is = e .0; miss = stops (first-taken (need.at·returns-in-Break-second c .After-end)) (e .1) })

@@ -21,13 +21,12 @@ pub loop-i-again : need.loop-i-again
 loop-i-again c =
     let e = sym (c .depth-after-depth .ensures) in
     let goes-on : (eqb (c .loop-i .depth) 0 && eqb (getD (c .args .text .now) (c .loop-i .i) 0) 32) ≡ false =
-      elim (c .else-depth-eq0 .came) [
-        else-depth-eq0·by·then-depth-eq0·else-b-eq32 w ↦ and-right _ _ (ne-eqb _ _ (w .if-b-eq32 .left))
-        | else-depth-eq0·by·else-depth-eq0 w ↦ and-left _ _ (ne-eqb _ _ (w .if-depth-eq0 .left))
-      ] in
-    (
+    elim (c .else-depth-eq0 .came) [
+      | else-depth-eq0·by·then-depth-eq0·else-b-eq32 w ↦ and-right _ _ (ne-eqb _ _ (w .if-b-eq32 .left))
+      | else-depth-eq0·by·else-depth-eq0 w ↦ and-left _ _ (ne-eqb _ _ (w .if-depth-eq0 .left))
+    ] in (
       subst (λ n. c .loop-i .i + 1 + span n (drop (c .loop-i .i + 1) (c .args .text .now)) ≡ span 0 (c .args .text .now)) e
-      (span-on _ _ _ (c .loop-i-test .taken) (c .loop-i .inv .0) goes-on),
+          (span-on _ _ _ (c .loop-i-test .taken) (c .loop-i .inv .0) goes-on),
       subst (λ n. n ≤ c .loop-i .i + 1) e (deeper _ _ _ (c .loop-i-test .taken) (c .loop-i .inv .1)),
     )
 
