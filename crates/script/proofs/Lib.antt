@@ -1,6 +1,8 @@
 mod Cuts
 mod Fronts
 mod Lines
+mod Listings
+mod Moves
 mod Scans
 mod Spelling
 mod Threes

@@ -10,7 +10,8 @@
 --   wordOf       the form that the first piece names, of the others; the closing bracket stands at `end`
 --   inner        what stands between the brackets of a line
 --   inside       the pieces there, the first at place 2; nothing is no piece, and not an empty one
---   whole        a line of at most 200 bytes, with room for it in the script, that is one bracketed form
+--   whole        a line of at most 200 bytes that is one bracketed form, and whose last byte is among the script's first
+--                32,768; that byte's number in the script is `last`
 --   formOf       the form that a line holds, or its flaw
 use mathlib.Core.Path.{_≡_}
 use mathlib.Core.Bool.{Bool, true, false, cond, not, _&&_}
@@ -102,10 +103,10 @@ abbrev pub inner : List ℕ → List ℕ
 inner line = between 1 (length line - 1) line
 
 abbrev pub whole : ℕ → List ℕ → Bool
-whole room line = leb (length line) 200 && (leb (length line) room && fills line)
+whole last line = leb (length line) 200 && (leb last 32768 && fills line)
 
 abbrev pub formOf : ℕ → List ℕ → Result Form Flaw
-formOf room line = cond (whole room line) (wordOf (length line) (inside (inner line))) (Err NotAForm)
+formOf last line = cond (whole last line) (wordOf (length line) (inside (inner line))) (Err NotAForm)
 
 -- What the readers of numbers say, where `rest` is empty or begins with the space at `place`.
 --   nextPlace      where the next piece begins, or would

@@ -18,6 +18,9 @@ use crate::numerals::value_of;
 /// The longest line that is read.
 const LINE_BYTES: usize = 200;
 
+/// How many bytes of a script are read, line feeds among them.
+const SCRIPT_BYTES: usize = 32_768;
+
 /// A form with the values of its items.
 #[derive(Clone, Copy)]
 pub enum Form {
@@ -119,19 +122,19 @@ fn read_inside(text: &[u8]) -> Result<Form, Flaw>
     }
 }
 
-/// Whether a line is short enough and one bracketed form.
-fn is_whole(line: &[u8], room: usize) -> bool
-    ensures value { λ r. ⌜ r ≡ whole room (now (line .entry)) ⌝ }
+/// Whether a line is within both limits, and one bracketed form.
+fn is_whole(line: &[u8], last: usize) -> bool
+    ensures value { λ r. ⌜ r ≡ whole last (now (line .entry)) ⌝ }
     ensures bracketed { λ r. ⌜ (r ≡ true → 2 ≤ length (now (line .entry))) ⌝ }
 {
-    line.len() <= LINE_BYTES && line.len() <= room && is_form(line)
+    line.len() <= LINE_BYTES && last <= SCRIPT_BYTES && is_form(line)
 }
 
-/// The form that a line holds. `room` is how many bytes the script has room for where the line begins.
-pub fn read_form(line: &[u8], room: usize) -> Result<Form, Flaw>
-    ensures { λ r. ⌜ r ≡ formOf room (now (line .entry)) ⌝ }
+/// The form that a line holds. Its last byte is the script's byte number `last`.
+pub fn read_form(line: &[u8], last: usize) -> Result<Form, Flaw>
+    ensures { λ r. ⌜ r ≡ formOf last (now (line .entry)) ⌝ }
 {
-    if !is_whole(line, room) {
+    if !is_whole(line, last) {
         return Err(Flaw::NotAForm);
     }
     read_inside(&line[1..line.len() - 1])

@@ -3,6 +3,6 @@ use borrow.Author.Needs.{needs}
 use Rattle.script.proofs.Lines.{form-long}
 use Rattle.script.proofs.forms.is_whole.Needs as need
 
-pub returns-then-line-room : need.returns-then-line-room
-returns-then-line-room c =
+pub returns-then-last-le-SCRIPT-BYTES : need.returns-then-last-le-SCRIPT-BYTES
+returns-then-last-le-SCRIPT-BYTES c =
     record { value = search needs; bracketed = λ e. form-long (c .args .line .now) (sym (c .is-form .ensures) ∙ e) }

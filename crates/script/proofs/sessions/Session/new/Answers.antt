@@ -1,0 +1,5 @@
+use Rattle.script.proofs.Listings.{all-listed}
+use Rattle.script.proofs.sessions.Session.new.Needs as need
+
+pub returns : need.returns
+returns c = λ script. all-listed _ script (c .new .ensures .items)
