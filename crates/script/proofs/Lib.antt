@@ -1,8 +1,12 @@
 mod Cuts
+mod Decimals
 mod Fronts
 mod Lines
 mod Listings
 mod Moves
+mod Quotes
+mod QuotesBack
+mod QuotesOnly
 mod Scans
 mod Spelling
 mod Threes

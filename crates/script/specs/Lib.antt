@@ -5,4 +5,5 @@ pub mod Forms
 pub mod Items
 pub mod Listing
 pub mod Numerals
+pub mod QuoteLines
 pub mod Sessions

@@ -8,6 +8,7 @@ ghost use Rattle.std.specs.Results.{Cases};
 ghost use Rattle.script.specs.declared.flaws.Flaw.the-variants.{WrongItem, WrongNumber};
 ghost use Rattle.script.specs.Forms.{NextNumber, nextPlace, noNumber, ThreeNumbers, Misses, piece, following, inside, whole, quoteOf, ByWord, wordOf, formOf};
 ghost use Rattle.script.specs.Numerals.{read};
+ghost use Rattle.script.specs.QuoteLines.{ReadsQuotes};
 use crate::brackets::is_form;
 use crate::flaws::Flaw;
 use crate::items::Item;
@@ -132,7 +133,8 @@ fn is_whole(line: &[u8], last: usize) -> bool
 
 /// The form that a line holds. Its last byte is the script's byte number `last`.
 pub fn read_form(line: &[u8], last: usize) -> Result<Form, Flaw>
-    ensures { λ r. ⌜ r ≡ formOf last (now (line .entry)) ⌝ }
+    ensures value { λ r. ⌜ r ≡ formOf last (now (line .entry)) ⌝ }
+    ensures quotes { λ r. ⌜ ReadsQuotes last (now (line .entry)) r ⌝ }
 {
     if !is_whole(line, last) {
         return Err(Flaw::NotAForm);
