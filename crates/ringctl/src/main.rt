@@ -1,13 +1,17 @@
 // Answers the script on standard input, a line for each line, as it comes.
 use script::Session;
-use std::io;
+use std::error::AnyError;
 use std::io::Read;
 use std::io::Write;
 
 /// How much is read at a time.
 const PIECE_BYTES: usize = 16_384;
 
-fn main(rt: LibcRuntime) -> io::Result<()> {
+fn main(rt: LibcRuntime) -> Result<(), AnyError> {
+    rt.report(run(&rt))
+}
+
+fn run(rt: &LibcRuntime) -> Result<(), AnyError> {
     let heap = rt.alloc();
     let mut input = rt.stdin();
     let mut output = rt.stdout();
@@ -25,5 +29,6 @@ fn main(rt: LibcRuntime) -> io::Result<()> {
     }
     session.finish(&mut answers)?;
     output.write_all(answers.as_bytes())?;
-    output.flush()
+    output.flush()?;
+    Ok(())
 }

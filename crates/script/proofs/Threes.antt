@@ -54,6 +54,10 @@ one-too-many {end} {xs} {p} {rest} r some = r .same ∙ extra rest some
     extra [] none = absurd (omega arith)
     extra (b ∷ bs) _ = ap (λ ps. mismatch [] end (placed (p + 1) ps)) (cut-front 0 bs)
 
+-- a first piece, and what follows it at the place q that the code has for its end
+pub first-then : {ps : List Piece} {q : ℕ} (x : Part) (more : List ℕ) → q ≡ past x → ps ≡ piece x ∷ following (past x) more → ps ≡ piece x ∷ following q more
+first-then x more is h = h ∙ ap (λ p. piece x ∷ following p more) (sym is)
+
 -- a number that was read, and one that was not
 was-read : (o : Option ℕ) (f : Flaw) (u : ℕ) → _≡_ {A = Result ℕ Flaw} (Ok u) (okOr o f) → isSome o ≡ true
 was-read None f u e = let z : _≡_ {A = ℕ} 0 1 = cc in absurd (omega arith)

@@ -21,3 +21,4 @@ pub use items::Item;
 pub use items::Part;
 pub use items::read_item;
 pub use sessions::Session;
+pub use sessions::answer_script;

@@ -2,6 +2,9 @@
 ghost use mathlib.Core.Path.{_≡_};
 ghost use Rattle.script.specs.Numerals.{numeral, plain, read};
 
+/// The largest number that is read.
+const LARGEST: u64 = 4_294_967_295;
+
 /// Whether `text` is one or more decimal digits and nothing else.
 pub(crate) fn is_number(text: &[u8]) -> bool
     ensures { λ r. ⌜ r ≡ numeral (now (text .entry)) ⌝ }
@@ -31,7 +34,7 @@ pub(crate) fn value_of(digits: &[u8]) -> Option<u32>
     let mut sum: u64 = 0;
     for b in digits {
         sum = sum * 10 + u64::from(b.saturating_sub(b'0'));
-        if sum > 4_294_967_295 {
+        if sum > LARGEST {
             return None;
         }
     }

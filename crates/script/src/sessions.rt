@@ -4,6 +4,8 @@ ghost use Rattle.std.specs.Of.Vec.{vec-len};
 
 mod reading;
 
+pub use reading::answer_script;
+
 /// Reads a script and writes the answer to each of its lines. It holds no more of the script than the front of one line.
 #[derive(Drop)]
 pub struct Session {

@@ -19,6 +19,17 @@ const KEPT_BYTES: usize = 201;
 
 const COUNTED_BYTES: usize = 32_769;
 
+/// The listing of a whole script.
+pub fn answer_script(heap: Global, script: &[u8]) -> Result<String, AllocError>
+    ensures { λ r. ⌜ made r (λ out. string-bytes out ≡ listing (now (script .entry))) ⌝ }
+{
+    let mut out = String::new(heap);
+    let mut session = Session::new(heap);
+    session.feed(script, &mut out)?;
+    session.finish(&mut out)?;
+    Ok(out)
+}
+
 /// Writes the answer to a line, and a line feed.
 fn write_reply(out: &mut String, line: Line<'_>) -> Result<(), AllocError>
     ensures { λ r. ⌜ made r (λ _. string-bytes (now (out .exit)) ≡ string-bytes (now (out .entry)) ++ lineText (line .entry .last) (now (line .entry .bytes))) ⌝ }

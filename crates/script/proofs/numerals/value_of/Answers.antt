@@ -9,15 +9,15 @@ use Rattle.script.proofs.numerals.value_of.Needs.{After-from}
 summed : (c : After-from) → c .loop-b .sum * 10 + c .from .result ≡ c .loop-b .sum * 10 + (getD (c .args .digits .now) (c .loop-b .b-index) 0 - 48)
 summed c = ap (λ n. c .loop-b .sum * 10 + n) (c .from .ensures ∙ c .saturating-sub .ensures)
 
-pub returns-then-sum-gt4294967295 : need.returns-then-sum-gt4294967295
-returns-then-sum-gt4294967295 c =
-    too-large _ _ _ _ (c .loop-b .inv .0) (c .loop-b-test .taken) (summed (need.at·returns-then-sum-gt4294967295 c .After-from))
-    (c .if-sum-gt4294967295 .taken)
+pub returns-then-sum-gt-LARGEST : need.returns-then-sum-gt-LARGEST
+returns-then-sum-gt-LARGEST c =
+    too-large _ _ _ _ (c .loop-b .inv .0) (c .loop-b-test .taken) (summed (need.at·returns-then-sum-gt-LARGEST c .After-from))
+    (c .if-sum-gt-LARGEST .taken)
 
 pub loop-b-again : need.loop-b-again
 loop-b-again c = (
   valued-on _ _ _ _ (c .loop-b .inv .0) (c .loop-b-test .taken) (summed (need.at·loop-b-again c .After-from)),
-  c .if-sum-gt4294967295 .left,
+  c .if-sum-gt-LARGEST .left,
 )
 
 pub returns : need.returns
