@@ -22,3 +22,6 @@ pub use items::Part;
 pub use items::read_item;
 pub use sessions::Session;
 pub use sessions::answer_script;
+
+#[cfg(test)]
+mod tests;

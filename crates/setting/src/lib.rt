@@ -5,4 +5,10 @@ mod settings;
 
 pub use quotes::quote;
 pub use refusals::Refusal;
+pub use refusals::RefusalDebug;
+pub use refusals::RefusalEq;
+pub use refusals::RefusalPartialEq;
 pub use settings::Setting;
+
+#[cfg(test)]
+mod tests;

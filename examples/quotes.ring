@@ -1,0 +1,10 @@
+(quote 6 5 2)
+(quote 4 2 3)
+(quote 12 11 12)
+(quote 1 1 1)
+(quote 4 4 4)
+(quote 4 2 1)
+(quote 4 2)
+(quote 4 02 3)
+(close)
+quote 4 2 3
