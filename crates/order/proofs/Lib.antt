@@ -1,0 +1,4 @@
+mod Earliest
+pub mod Masks
+mod Places
+mod Values

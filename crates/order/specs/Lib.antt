@@ -1,0 +1,4 @@
+pub mod Links
+pub mod Rankings
+pub mod Refused
+pub mod Sets

@@ -1,0 +1,3 @@
+mod BookLaws
+mod GridLaws
+mod LineNumbers

@@ -1,0 +1,9 @@
+pub mod Bits
+pub mod BookLawful
+pub mod Books
+pub mod Counts
+pub mod GridLawful
+pub mod Grids
+pub mod Ledgers
+pub mod Lines
+pub mod Refused
