@@ -1,0 +1,3 @@
+mod FirstFaults
+pub mod ProperChains
+mod Seen
