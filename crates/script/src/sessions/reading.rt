@@ -46,7 +46,8 @@ fn write_reply(out: &mut String, line: Line<'_>) -> Result<(), AllocError>
 
 impl Session {
     pub fn new(heap: Global) -> Session
-        ensures { λ r. ⌜ ((script : List ℕ) → due r script ≡ listing script) ⌝ }
+        ensures writes { λ r. ⌜ ((script : List ℕ) → due r script ≡ listing script) ⌝ }
+        ensures counts { λ r. ⌜ r .number ≡ 1 ⌝ }
     {
         Session {
             number: 1,
