@@ -17,7 +17,7 @@ use Rattle.chain.specs.declared.refusals.Refusal.the-variants.{Length, Beyond,
 use Rattle.chain.specs.Chains.{Proper}
 use Rattle.chain.specs.Faults.{nameFault, orElse, firstFault, unfit}
 
-some-none : {A : Type 0} (x : A) → _≡_ {A = Option A} (Some x) None → ⊥
+pub some-none : {A : Type 0} (x : A) → _≡_ {A = Option A} (Some x) None → ⊥
 some-none x e = let z : _≡_ {A = ℕ} 0 1 = cc in omega arith
 
 -- one name without a fault

@@ -4,19 +4,19 @@ use mathlib.Core.Bool.{Bool, true, false, _||_}
 use mathlib.Core.List.{List, [], _∷_, _++_}
 use mathlib.Core.Logic.{⊎-elim}
 use Prim.Native.Nat.{ℕ, suc, _+_, _*_, _/_, _%_, _^_, _≤_, _<_}
-use native.Mathlib.Nat.{zero-div}
+use native.Mathlib.Nat.{zero-div, mod-lt}
 use native.Mathlib.Omega.{arith}
-use lib.Bits.{bitOr, or-lt}
+use lib.Bits.{bitAnd, bitOr, or-lt}
 use lib.Dec.{eqb}
 use lib.ListN.{length, getD, take, drop}
 use Rattle.std.specs.declared.option.Option.{Option}
 use Rattle.std.specs.declared.option.Option.the-variants.{None, Some}
 use Rattle.std.proofs.shelf.Bits.{one-shl, pow-below}
 use Rattle.std.proofs.shelf.Lists.{at-drop-more, at-drop-all, take-more}
-use Rattle.std.proofs.shelf.Tests.{cases-bool}
+use Rattle.std.proofs.shelf.Tests.{cases-bool, cases-lt}
 use Rattle.counting.specs.Lists.{has}
 use Rattle.order.specs.Sets.{has as in-mask}
-use Rattle.order.proofs.Masks.{bit-or}
+use Rattle.order.proofs.Masks.{bit-or, bit-tested, on-from, off-from}
 use Rattle.chain.specs.declared.refusals.Refusal.{Refusal}
 use Rattle.chain.specs.Faults.{nameFault, orElse, firstFault}
 use Rattle.chain.proofs.FirstFaults.{Fine, fine-from, fine-none}
@@ -71,3 +71,13 @@ module _ (n lead : ℕ) (names : List ℕ) (i seen : ℕ) (s : Scanned n lead na
 
 pub scanned-all : (n lead : ℕ) (names : List ℕ) (i seen : ℕ) → Scanned n lead names i seen → length names ≤ i → firstFault n lead 1 [] names ≡ None
 scanned-all n lead names i seen s end = sym (s .same) ∙ at-drop-all (firstFault n lead (i + 1) (take i names)) names i end
+
+-- a bit that is looked at
+pub bit-off : (m k : ℕ) → bitAnd (m / 2 ^ k) 1 ≡ 0 → in-mask m k ≡ false
+bit-off m k off = off-from m k (λ on. omega arith)
+
+pub bit-on : (m k : ℕ) → (bitAnd (m / 2 ^ k) 1 ≡ 0 → ⊥) → in-mask m k ≡ true
+bit-on m k on =
+    let is = bit-tested m k in
+    let low : m / 2 ^ k % 2 < 2 = mod-lt (m / 2 ^ k) (omega arith) in
+    on-from m k (⊎-elim (λ none. absurd (on (omega arith))) (λ some. omega arith) (cases-lt (bitAnd (m / 2 ^ k) 1) 1))

@@ -1,3 +1,6 @@
 pub mod Chains
+pub mod Examples
 pub mod Faults
+pub mod Places
+pub mod Ranks
 pub mod Refused

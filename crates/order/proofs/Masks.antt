@@ -144,3 +144,11 @@ bit-or m k j =
     let kept = low-bits m (2 ^ k) j ∙ ap (bitOr (m / 2 ^ j % 2)) (other-power j k other) ∙ or-zero-r (m / 2 ^ j % 2) in
     ap (λ x. eqb x 1) kept ∙ ap (λ b. b || has m j) (sym (ne-eqb j k other)))
     (cases-eq j k)
+
+-- a mask of one bit
+pub one-bit : (k j : ℕ) → has (2 ^ k) j ≡ eqb j k
+one-bit k j =
+    ⊎-elim
+    (λ here. eq-eqb (2 ^ k / 2 ^ j % 2) 1 (ap (λ i. 2 ^ k / 2 ^ i % 2) here ∙ same-power k) ∙ sym (eq-eqb j k here))
+    (λ other. ne-eqb (2 ^ k / 2 ^ j % 2) 1 (λ is. let none = other-power j k other in omega arith) ∙ sym (ne-eqb j k other))
+    (cases-eq j k)
