@@ -17,7 +17,7 @@ import sys
 MODULES = {"protocol": ["keeps", "led", "parts", "shown", "worked"]}
 IDENT = r"[A-Za-z_][\w'\-≡≢≤<∷ℕ]*"
 TOKEN = re.compile(r"(?<![\w'\-≡≢≤<∷ℕ])" + IDENT)
-DEFINED = re.compile(r"^\s*(?:(?:pub|abbrev|unfoldable) )*(?:(?:data|record) )?(" + IDENT + r")(?= :|(?: [({]| *$))")
+DEFINED = re.compile(r"^\s*(?:(?:pub|abbrev|unfoldable) )*(?:(?:data|record) (?=" + IDENT + r")|(?=" + IDENT + r" :))(" + IDENT + r")")
 # a dash that joins the names of two functions
 JOINED = {"below-drop", "below-take", "distinct-take", "has-append", "has-take", "feeds-append"}
 # names that a proof gives to a value of its own

@@ -1,6 +1,6 @@
 -- Names without a fault are those of a proper chain. Assumes nothing.
 use Rattle.std.proofs.Common.{◌≡◌, ℕ, suc, ◌+◌, ◌<◌, ◌≤◌, Bool, true, false, cond, not, ◌&&◌, ◌||◌, eqb, ltb, leb, List, [], ◌∷◌, ◌++◌, length, Some, None, Option, sym, refl, ap, ◌∙◌, subst, ⊎_elim, arith}
-use Rattle.std.proofs.lemmas.Bool.{cases_Bool, cases_eq, cond-true, cond-false, and_parts, and_from, and_left, and_right, and_cases, or_parts, or_left, or_right, or_from, or_cases, eqb-true, eqb-false, eq_eqb, ne_eqb, leb-true, le-leb, ltb-true, lt_ltb, not-true, not-false, not_from_true, not_from_false, both_ways}
+use Rattle.std.proofs.lemmas.Bool.{cases_Bool, cases_eq, cond-true, cond-false, and_parts, and_from, and_left, and_right, and_cases, or_parts, or_left, or_right, or_from, or_cases, eqb-true, eqb-false, eq-eqb, ne_eqb, leb-true, le-leb, ltb-true, lt-ltb, not-true, not-false, not_from_true, not_from_false, both_ways}
 use Rattle.counting.specs.Lists.{has, distinct, below}
 use Rattle.counting.proofs.Pushes.{has_push}
 use Rattle.chain.specs.declared.refusals.Refusal.{Refusal}
@@ -41,8 +41,8 @@ fine_from n lead place before name none =
 pub fine_none : (n lead place : ℕ) (before : List ℕ) (name : ℕ) → Fine n lead place before name → fault_of_name n lead place (has name before) name ≡ None
 fine_none n lead place before name f =
     let leads : (eqb place 1 && not (eqb name lead)) ≡ false =
-    ⊎_elim (λ first. and_right _ _ (not_from_true _ (eq_eqb name lead (f.leads (eqb-true place 1 first))))) (λ later. and_left _ _ later) (cases_Bool (eqb place 1)) in
-    cond-true _ _ _ (lt_ltb name n f.low) ∙ cond-false _ _ _ leads ∙ cond-false _ _ _ f.new
+    ⊎_elim (λ first. and_right _ _ (not_from_true _ (eq-eqb name lead (f.leads (eqb-true place 1 first))))) (λ later. and_left _ _ later) (cases_Bool (eqb place 1)) in
+    cond-true _ _ _ (lt-ltb name n f.low) ∙ cond-false _ _ _ leads ∙ cond-false _ _ _ f.new
 
 -- the names after some others, without a fault
 pub record Good (n : ℕ) (before xs : List ℕ) : Type 0 where
@@ -70,7 +70,7 @@ good_from n lead place before (x ∷ xs) none =
     let g = good_from n lead (suc place) (before ++ x ∷ []) xs p.1 in
     let once : has x xs ≡ false = ⊎_elim (λ twice. absurd ((push_parts before x x (g.new x twice)).1 refl)) (λ out. out) (cases_Bool (has x xs)) in
     record {
-      low = and_from _ _ (lt_ltb x n f.low) g.low;
+      low = and_from _ _ (lt-ltb x n f.low) g.low;
       apart = and_from _ _ (not_from_false _ once) g.apart;
       new = λ y is. ⊎_elim (λ here. subst (λ z. has z before ≡ false) (sym (eqb-true y x here)) f.new) (λ later. (push_parts before x y (g.new y later)).0) (or_cases (eqb y x) (has y xs) is);
     }
@@ -80,7 +80,7 @@ good_none n lead place before [] g leads from = refl
 good_none n lead place before (x ∷ xs) g leads from =
     let a = and_parts (not (has x xs)) (distinct xs) g.apart in
     let b = and_parts (ltb x n) (below n xs) g.low in
-    let f = fine_none n lead place before x (record { low = ltb-true x n b.0; leads = leads x xs refl; new = g.new x (or_left _ _ (eq_eqb x x refl)) }) in
+    let f = fine_none n lead place before x (record { low = ltb-true x n b.0; leads = leads x xs refl; new = g.new x (or_left _ _ (eq-eqb x x refl)) }) in
     let rest : Good n (before ++ x ∷ []) xs = record {
       low = b.1;
       apart = a.1;

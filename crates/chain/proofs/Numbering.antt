@@ -1,7 +1,7 @@
 -- The places of proper chains have the order of the chains, and none is left out. Assumes nothing.
 use Rattle.std.proofs.Common.{◌≡◌, ℕ, zero, suc, ◌+◌, ◌-◌, ◌*◌, ◌/◌, ◌%◌, ◌^◌, ◌<◌, ◌≤◌, Bool, true, false, not, ◌&&◌, ◌||◌, eqb, ltb, List, [], ◌∷◌, length, get_or, take, drop, sym, refl, ap, ◌∙◌, subst, ⊎_elim, mul-le-mul_right, mod-lt, suc-mul, mul-le-mul, div-add-mod', arith}
 use Rattle.std.proofs.lemmas.List.{take_all}
-use Rattle.std.proofs.lemmas.Bool.{cases_lt, and_left, or_left, or_from, eq_eqb, ne_eqb, lt_ltb}
+use Rattle.std.proofs.lemmas.Bool.{cases_lt, and_left, or_left, or_from, eq-eqb, ne_eqb, lt-ltb}
 use Rattle.counting.specs.Lists.{has, tally}
 use Rattle.counting.proofs.Tallies.{tally_all}
 use Rattle.chain.specs.Chains.{Proper}
@@ -76,7 +76,7 @@ module _ (n t lead : ℕ) (names : List ℕ) (p : Proper n t lead names) where
 
 -- the order of two chains of one code
 sooner_after : (x : ℕ) (xs ys : List ℕ) → sooner (x ∷ xs) (x ∷ ys) ≡ sooner xs ys
-sooner_after x xs ys = λ k. ltb_not x x (omega arith) k || (eq_eqb x x refl k && sooner xs ys)
+sooner_after x xs ys = λ k. ltb_not x x (omega arith) k || (eq-eqb x x refl k && sooner xs ys)
 
 module _ (n t lead : ℕ) (a b : List ℕ) (p : Proper n t lead a) (q : Proper n t lead b) where
   as_long : length a ≡ length b → ltb (within n a) (within n b) ≡ sooner a b
@@ -99,7 +99,7 @@ module _ (n t lead : ℕ) (a b : List ℕ) (p : Proper n t lead a) (q : Proper n
       let high = within_high n t lead a p in
       let low = within_low n t lead b q in
       let g = shorter_grows (n - 1) (length a) (length b - 1) (omega arith) in
-      lt_ltb (within n a) (within n b) (omega arith) ∙ sym (or_left _ _ (lt_ltb (length a) (length b) less)))
+      lt-ltb (within n a) (within n b) (omega arith) ∙ sym (or_left _ _ (lt-ltb (length a) (length b) less)))
       (λ ge.
       ⊎_elim
       (λ more.
@@ -109,7 +109,7 @@ module _ (n t lead : ℕ) (a b : List ℕ) (p : Proper n t lead a) (q : Proper n
       ltb_not (within n a) (within n b) (omega arith) ∙ sym (or_from _ _ (ltb_not (length a) (length b) ge) (and_left _ _ (ne_eqb (length a) (length b) (λ eq. omega arith)))))
       (λ le.
       let eq : length a ≡ length b = omega arith in
-      as_long eq ∙ sym (λ k. ltb_not (length a) (length b) ge k || (eq_eqb (length a) (length b) eq k && sooner a b)))
+      as_long eq ∙ sym (λ k. ltb_not (length a) (length b) ge k || (eq-eqb (length a) (length b) eq k && sooner a b)))
       (cases_lt (length b) (length a)))
       (cases_lt (length a) (length b))
 
@@ -121,7 +121,7 @@ module _ (n t lead : ℕ) (a b : List ℕ) (p : Proper n t lead a) (q : Proper n
       ⊎_elim
       (λ less.
       let up = below_product c (within n a) N d less u in
-      lt_ltb (place_of n t c a) (place_of n t d b) (omega arith) ∙ sym (or_left _ _ (lt_ltb c d less)))
+      lt-ltb (place_of n t c a) (place_of n t d b) (omega arith) ∙ sym (or_left _ _ (lt-ltb c d less)))
       (λ ge.
       ⊎_elim
       (λ more.
@@ -129,7 +129,7 @@ module _ (n t lead : ℕ) (a b : List ℕ) (p : Proper n t lead a) (q : Proper n
       ltb_not (place_of n t c a) (place_of n t d b) (omega arith) ∙ sym (or_from _ _ (ltb_not c d ge) (and_left _ _ (ne_eqb c d (λ eq. omega arith)))))
       (λ le.
       let eq : c ≡ d = omega arith in
-      ap (λ z. ltb (c * N + within n a) (z * N + within n b)) (sym eq) ∙ ltb_shift (c * N) (within n a) (within n b) ∙ one_code ∙ sym (λ k. ltb_not c d ge k || (eq_eqb c d eq k && (ltb (length a) (length b) || (eqb (length a) (length b) && sooner a b)))))
+      ap (λ z. ltb (c * N + within n a) (z * N + within n b)) (sym eq) ∙ ltb_shift (c * N) (within n a) (within n b) ∙ one_code ∙ sym (λ k. ltb_not c d ge k || (eq-eqb c d eq k && (ltb (length a) (length b) || (eqb (length a) (length b) && sooner a b)))))
       (cases_lt d c))
       (cases_lt c d)
 

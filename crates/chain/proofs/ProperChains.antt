@@ -1,6 +1,6 @@
 -- Fronts of proper chains, proper chains with one name more, and the test for proper chains. Assumes nothing.
 use Rattle.std.proofs.Common.{◌≡◌, ℕ, suc, ◌+◌, ◌<◌, ◌≤◌, min, true, false, List, [], ◌∷◌, ◌++◌, length, get_or, take, sym, refl, ap, ◌∙◌, arith, length-append, length-take}
-use Rattle.std.proofs.lemmas.Bool.{true≢false, and_parts, and_from, eqb-true, eq_eqb, leb-true, le-leb}
+use Rattle.std.proofs.lemmas.Bool.{true≢false, and_parts, and_from, eqb-true, eq-eqb, leb-true, le-leb}
 use Rattle.counting.specs.Lists.{has, below, distinct}
 use Rattle.counting.proofs.Prefixes.{distinct-take, below-take}
 use Rattle.counting.proofs.Pushes.{distinct_push, below_push, below_at}
@@ -42,7 +42,7 @@ proper_from n t lead (x ∷ xs) on =
 pub proper_test : (n t lead : ℕ) (names : List ℕ) → Proper n t lead names → is_proper n t lead names ≡ true
 proper_test n t lead [] p = let l = ap length p.split in absurd (omega arith)
 proper_test n t lead (x ∷ xs) p =
-    and_from _ _ (eq_eqb x lead (ap (λ l. get_or l 0 0) p.split)) (and_from _ _ (le-leb _ _ p.short) (and_from _ _ p.within p.apart))
+    and_from _ _ (eq-eqb x lead (ap (λ l. get_or l 0 0) p.split)) (and_from _ _ (le-leb _ _ p.short) (and_from _ _ p.within p.apart))
 
 -- a second name is of the ring
 pub second_low : (n t lead l q : ℕ) (rest : List ℕ) → Proper n t lead (l ∷ q ∷ rest) → q < n

@@ -1,6 +1,6 @@
 -- The rank of a list of new names, and the names of a rank. Assumes nothing.
 use Rattle.std.proofs.Common.{◌≡◌, ℕ, zero, suc, ◌+◌, ◌-◌, ◌*◌, ◌/◌, ◌%◌, ◌<◌, ◌≤◌, Bool, true, false, cond, not, ◌&&◌, ◌||◌, eqb, ltb, List, [], ◌∷◌, length, sym, refl, ap, ◌∙◌, subst, ⊎_elim, mul-le-mul_right, mod-lt, suc-mul, mul-zero, div-add-mod', zero-mul, arith}
-use Rattle.std.proofs.lemmas.Bool.{cases_Bool, cases_lt, cond-true, cond-false, and_parts, and_from, and_left, and_right, and_cases, or_parts, or_left, or_right, or_from, or_cases, eqb-true, eqb-false, eq_eqb, ne_eqb, ltb-true, lt_ltb, not-true, not-false, not_from_true, not_from_false, both_ways}
+use Rattle.std.proofs.lemmas.Bool.{cases_Bool, cases_lt, cond-true, cond-false, and_parts, and_from, and_left, and_right, and_cases, or_parts, or_left, or_right, or_from, or_cases, eqb-true, eqb-false, eq-eqb, ne_eqb, ltb-true, lt-ltb, not-true, not-false, not_from_true, not_from_false, both_ways}
 use Rattle.counting.specs.Lists.{has, distinct, below, tally}
 use Rattle.counting.proofs.Tallies.{tally_more}
 use Rattle.chain.specs.Ranks.{ways, shorter, is_new, nth, rank, spelled, sooner}
@@ -63,7 +63,7 @@ nth_is f (suc n) d l =
 -- one new name fewer
 pub fewer_new : (n free : ℕ) (before : List ℕ) (x : ℕ) → free ≡ tally (is_new before) n → x < n → is_new before x ≡ true → free - 1 ≡ tally (is_new (x ∷ before)) n
 fewer_new n free before x is low new =
-    let m = tally_more (is_new (x ∷ before)) (is_new before) n x low (not_from_true _ (or_left _ _ (eq_eqb x x refl))) new (λ p other. sym (ap (λ b. not (b || has p before)) (ne_eqb p x other))) in
+    let m = tally_more (is_new (x ∷ before)) (is_new before) n x low (not_from_true _ (or_left _ _ (eq-eqb x x refl))) new (λ p other. sym (ap (λ b. not (b || has p before)) (ne_eqb p x other))) in
     omega arith
 
 -- a number in two digits
@@ -86,7 +86,7 @@ module _ (n : ℕ) (before : List ℕ) (x : ℕ) (xs : List ℕ) (g : Good n bef
   head_low = ltb-true x n (and_parts (ltb x n) (below n xs) g.low).0
 
   pub head_new : is_new before x ≡ true
-  head_new = not_from_false _ (g.new x (or_left _ _ (eq_eqb x x refl)))
+  head_new = not_from_false _ (g.new x (or_left _ _ (eq-eqb x x refl)))
 
   pub rest_good : Good n (x ∷ before) xs
   rest_good = record {
@@ -98,8 +98,8 @@ module _ (n : ℕ) (before : List ℕ) (x : ℕ) (xs : List ℕ) (g : Good n bef
 pub good_cons : (n : ℕ) (before : List ℕ) (x : ℕ) (xs : List ℕ) → x < n → is_new before x ≡ true → Good n (x ∷ before) xs → Good n before (x ∷ xs)
 good_cons n before x xs low new g =
     record {
-      low = and_from _ _ (lt_ltb x n low) g.low;
-      apart = and_from _ _ (not_from_false _ (⊎_elim (λ twice. absurd (both_ways (has x (x ∷ before)) (g.new x twice) (or_left _ _ (eq_eqb x x refl)))) (λ out. out) (cases_Bool (has x xs)))) g.apart;
+      low = and_from _ _ (lt-ltb x n low) g.low;
+      apart = and_from _ _ (not_from_false _ (⊎_elim (λ twice. absurd (both_ways (has x (x ∷ before)) (g.new x twice) (or_left _ _ (eq-eqb x x refl)))) (λ out. out) (cases_Bool (has x xs)))) g.apart;
       new = λ y is. ⊎_elim (λ here. subst (λ z. has z before ≡ false) (sym (eqb-true y x here)) (not-true _ new)) (λ later. (or_parts (eqb y x) (has y before) (g.new y later)).1) (or_cases (eqb y x) (has y xs) is);
     }
 
@@ -154,7 +154,7 @@ pub ltb_not : (a b : ℕ) → b ≤ a → ltb a b ≡ false
 ltb_not a b le = ⊎_elim (λ yes. absurd (let l = ltb-true a b yes in omega arith)) (λ no. no) (cases_Bool (ltb a b))
 
 pub ltb_shift : (m a b : ℕ) → ltb (m + a) (m + b) ≡ ltb a b
-ltb_shift m a b = ⊎_elim (λ l. lt_ltb (m + a) (m + b) (omega arith) ∙ sym (lt_ltb a b l)) (λ ge. ltb_not (m + a) (m + b) (omega arith) ∙ sym (ltb_not a b ge)) (cases_lt a b)
+ltb_shift m a b = ⊎_elim (λ l. lt-ltb (m + a) (m + b) (omega arith) ∙ sym (lt-ltb a b l)) (λ ge. ltb_not (m + a) (m + b) (omega arith) ∙ sym (ltb_not a b ge)) (cases_lt a b)
 
 -- the rank has the order of a dictionary
 pub rank_sooner : (n free : ℕ) (before xs ys : List ℕ) → free ≡ tally (is_new before) n → Good n before xs → Good n before ys → length xs ≡ length ys → ltb (rank free before xs) (rank free before ys) ≡ sooner xs ys
@@ -181,7 +181,7 @@ rank_sooner n free before (x ∷ xs) (y ∷ ys) is g h long =
     ⊎_elim
     (λ less.
     let up = below_product d r w e (tally_passes (is_new before) x y new less) small in
-    lt_ltb (d * w + r) (e * w + s) (omega arith) ∙ sym (or_left _ _ (lt_ltb x y less)))
+    lt-ltb (d * w + r) (e * w + s) (omega arith) ∙ sym (or_left _ _ (lt-ltb x y less)))
     (λ ge.
     ⊎_elim
     (λ more.
@@ -190,6 +190,6 @@ rank_sooner n free before (x ∷ xs) (y ∷ ys) is g h long =
     (λ le.
     let eq : x ≡ y = omega arith in
     let inner = rank_sooner n (free - 1) (x ∷ before) xs ys (fewer_new n free before x is low new) rest (subst (λ z. Good n (z ∷ before) ys) (sym eq) rest') long' in
-    (λ k. ltb (d * w + r) (tally (is_new before) (sym eq k) * w + rank (free - 1) (sym eq k ∷ before) ys)) ∙ ltb_shift (d * w) r (rank (free - 1) (x ∷ before) ys) ∙ inner ∙ sym (λ k. ltb_not x y ge k || (eq_eqb x y eq k && sooner xs ys)))
+    (λ k. ltb (d * w + r) (tally (is_new before) (sym eq k) * w + rank (free - 1) (sym eq k ∷ before) ys)) ∙ ltb_shift (d * w) r (rank (free - 1) (x ∷ before) ys) ∙ inner ∙ sym (λ k. ltb_not x y ge k || (eq-eqb x y eq k && sooner xs ys)))
     (cases_lt y x))
     (cases_lt x y)

@@ -1,6 +1,6 @@
 -- Lists that are the same by a test. Assumes nothing.
 use Rattle.std.proofs.Common.{◌≡◌, ℕ, true, ◌&&◌, eqb, List, [], ◌∷◌, refl}
-use Rattle.std.proofs.lemmas.Bool.{and_parts, and_from, eqb-true, eq_eqb, false≢true}
+use Rattle.std.proofs.lemmas.Bool.{and_parts, and_from, eqb-true, eq-eqb, false≢true}
 use Rattle.counting.specs.Lists.{alike}
 
 pub alike_same : (xs ys : List ℕ) → alike xs ys ≡ true → xs ≡ ys
@@ -15,4 +15,4 @@ alike_same (x ∷ xs) (y ∷ ys) on =
 
 pub alike_self : (xs : List ℕ) → alike xs xs ≡ true
 alike_self [] = refl
-alike_self (x ∷ xs) = and_from _ _ (eq_eqb x x refl) (alike_self xs)
+alike_self (x ∷ xs) = and_from _ _ (eq-eqb x x refl) (alike_self xs)

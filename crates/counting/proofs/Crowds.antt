@@ -1,7 +1,7 @@
 -- Comparing tallies, and finding a number that passes two tests. Assumes nothing.
 use Rattle.std.proofs.Common.{◌≡◌, ℕ, zero, suc, ◌+◌, ◌<◌, ◌≤◌, Bool, true, false, not, ◌&&◌, ◌||◌, eqb, List, [], ◌∷◌, ◌++◌, length, sym, refl, ap, ◌∙◌, subst, ⊎_elim, arith}
 use mathlib.Core.Bool.{and-true}
-use Rattle.std.proofs.lemmas.Bool.{cases_Bool, and_parts, and_from, and_left, and_right, or_left, or_right, or_parts, or_from, eq_eqb, ne_eqb, not-true, not_from_true, not_from_false, true≢false}
+use Rattle.std.proofs.lemmas.Bool.{cases_Bool, and_parts, and_from, and_left, and_right, or_left, or_right, or_parts, or_from, eq-eqb, ne_eqb, not-true, not_from_true, not_from_false, true≢false}
 use Rattle.counting.specs.Lists.{has, tally}
 use Rattle.counting.proofs.Tallies.{tally_yes, tally_no, tally_rises, tally_more, list_most}
 
@@ -46,7 +46,7 @@ tally_without f xs n =
 -- leaving out one number that passes
 pub tally_one_less : (f : ℕ → Bool) (n k : ℕ) → k < n → f k ≡ true → tally f n ≡ suc (tally (λ p. f p && not (eqb p k)) n)
 tally_one_less f n k low on =
-    tally_more (λ p. f p && not (eqb p k)) f n k low (and_right _ _ (not_from_true _ (eq_eqb k k refl))) on (λ p other. sym (same p (ne_eqb p k other)))
+    tally_more (λ p. f p && not (eqb p k)) f n k low (and_right _ _ (not_from_true _ (eq-eqb k k refl))) on (λ p other. sym (same p (ne_eqb p k other)))
   where
     same : (p : ℕ) → eqb p k ≡ false → (f p && not (eqb p k)) ≡ f p
     same p other = ap (λ b. f p && not b) other ∙ and-true (f p)

@@ -1,6 +1,6 @@
 -- One number more at the end of a list, and numbers below n. Assumes nothing.
 use Rattle.std.proofs.Common.{◌≡◌, ℕ, zero, suc, ◌<◌, ◌≤◌, Bool, true, false, not, ◌&&◌, ◌||◌, eqb, ltb, List, [], ◌∷◌, ◌++◌, length, get_or, sym, refl, ap, ◌∙◌, subst, arith}
-use Rattle.std.proofs.lemmas.Bool.{and_parts, and_from, or_parts, or_from, eqb-false, ne_eqb, lt_ltb, ltb-true, not-true, not_from_false}
+use Rattle.std.proofs.lemmas.Bool.{and_parts, and_from, or_parts, or_from, eqb-false, ne_eqb, lt-ltb, ltb-true, not-true, not_from_false}
 use Rattle.counting.specs.Lists.{has, distinct, below}
 
 pub has_push : (xs : List ℕ) (x p : ℕ) → has p xs ≡ false → (p ≡ x → ⊥) → has p (xs ++ x ∷ []) ≡ false
@@ -17,7 +17,7 @@ distinct_push (y ∷ ys) x apart new =
     and_from _ _ (not_from_false _ (has_push ys x y (not-true _ a.0) (λ e. eqb-false x y h.0 (sym e)))) (distinct_push ys x a.1 h.1)
 
 pub below_push : (n : ℕ) (xs : List ℕ) (x : ℕ) → below n xs ≡ true → x < n → below n (xs ++ x ∷ []) ≡ true
-below_push n [] x low here = and_from _ _ (lt_ltb x n here) refl
+below_push n [] x low here = and_from _ _ (lt-ltb x n here) refl
 below_push n (y ∷ ys) x low here =
     let b = and_parts (ltb y n) (below n ys) low in
     and_from _ _ b.0 (below_push n ys x b.1 here)
@@ -52,4 +52,4 @@ below_wider n k [] le low = refl
 below_wider n k (x ∷ xs) le low =
     let b = and_parts (ltb x n) (below n xs) low in
     let here = ltb-true x n b.0 in
-    and_from _ _ (lt_ltb x k (omega arith)) (below_wider n k xs le b.1)
+    and_from _ _ (lt-ltb x k (omega arith)) (below_wider n k xs le b.1)

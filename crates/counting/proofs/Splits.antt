@@ -1,6 +1,6 @@
 -- A list taken apart at one of its numbers, or before its last. Assumes nothing.
 use Rattle.std.proofs.Common.{◌≡◌, ℕ, zero, suc, ◌≤◌, Bool, true, false, ◌||◌, eqb, List, [], ◌∷◌, ◌++◌, length, get_or, take, sym, refl, ap, ◌∙◌, subst, ⊎_elim, arith}
-use Rattle.std.proofs.lemmas.Bool.{or_cases, or_left, or_right, eqb-true, eq_eqb}
+use Rattle.std.proofs.lemmas.Bool.{or_cases, or_left, or_right, eqb-true, eq-eqb}
 use Rattle.counting.specs.Lists.{has}
 
 pub record Split (q : ℕ) (xs : List ℕ) : Type 0 where
@@ -30,7 +30,7 @@ length_front [] q rest = omega arith
 length_front (x ∷ xs) q rest = let less = length_front xs q rest in omega arith
 
 pub has_middle : (front : List ℕ) (q : ℕ) (rest : List ℕ) → has q (front ++ q ∷ rest) ≡ true
-has_middle [] q rest = or_left _ _ (eq_eqb q q refl)
+has_middle [] q rest = or_left _ _ (eq-eqb q q refl)
 has_middle (x ∷ xs) q rest = or_right _ _ (has_middle xs q rest)
 
 -- two lists that end with one number each

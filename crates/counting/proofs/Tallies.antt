@@ -1,6 +1,6 @@
 -- How a tally grows, and what it says of lists of different numbers. Assumes nothing.
 use Rattle.std.proofs.Common.{◌≡◌, ℕ, zero, suc, ◌+◌, ◌<◌, ◌≤◌, Bool, true, false, cond, not, ◌&&◌, ◌||◌, eqb, ltb, List, [], ◌∷◌, length, get_or, sym, refl, ap, ◌∙◌, subst, ⊎_elim, arith}
-use Rattle.std.proofs.lemmas.Bool.{cases_Bool, cases_eq, cases_lt, cond-true, cond-false, and_parts, and_from, or_left, or_right, eq_eqb, ne_eqb, ltb-true, lt_ltb, not-true, not_from_false}
+use Rattle.std.proofs.lemmas.Bool.{cases_Bool, cases_eq, cases_lt, cond-true, cond-false, and_parts, and_from, or_left, or_right, eq-eqb, ne_eqb, ltb-true, lt-ltb, not-true, not_from_false}
 use Rattle.counting.specs.Lists.{has, distinct, below, tally}
 
 -- one number more, by what the test says of it
@@ -53,20 +53,20 @@ each_once [] n apart low = tally_none (λ p. false) n (λ p _. refl)
 each_once (x ∷ xs) n apart low =
     let a = and_parts (not (has x xs)) (distinct xs) apart in
     let b = and_parts (ltb x n) (below n xs) low in
-    tally_more (λ p. has p xs) (λ p. has p (x ∷ xs)) n x (ltb-true x n b.0) (not-true (has x xs) a.0) (or_left (eqb x x) (has x xs) (eq_eqb x x refl)) (λ p other. ap (λ e. e || has p xs) (ne_eqb p x other)) ∙ ap suc (each_once xs n a.1 b.1)
+    tally_more (λ p. has p xs) (λ p. has p (x ∷ xs)) n x (ltb-true x n b.0) (not-true (has x xs) a.0) (or_left (eqb x x) (has x xs) (eq-eqb x x refl)) (λ p other. ap (λ e. e || has p xs) (ne_eqb p x other)) ∙ ap suc (each_once xs n a.1 b.1)
 
 pub at_most : (xs : List ℕ) (n : ℕ) → distinct xs ≡ true → below n xs ≡ true → length xs ≤ n
 at_most xs n apart low = subst (λ k. k ≤ n) (each_once xs n apart low) (tally_most (λ p. has p xs) n)
 
 pub room : (xs : List ℕ) (n p : ℕ) → distinct xs ≡ true → below n xs ≡ true → p < n → has p xs ≡ false → length xs < n
 room xs n p apart low here missing =
-    let more = at_most (p ∷ xs) n (and_from _ _ (not_from_false _ missing) apart) (and_from _ _ (lt_ltb p n here) low) in
+    let more = at_most (p ∷ xs) n (and_from _ _ (not_from_false _ missing) apart) (and_from _ _ (lt-ltb p n here) low) in
     omega arith
 
 -- a number at an index stands in the list
 pub has_at : (xs : List ℕ) (i : ℕ) → i < length xs → has (get_or xs i 0) xs ≡ true
 has_at [] i on = absurd (omega arith)
-has_at (x ∷ xs) zero on = or_left _ _ (eq_eqb x x refl)
+has_at (x ∷ xs) zero on = or_left _ _ (eq-eqb x x refl)
 has_at (x ∷ xs) (suc i) on = or_right _ _ (has_at xs i (omega arith))
 
 pub tally_all : (f : ℕ → Bool) (n : ℕ) → ((p : ℕ) → p < n → f p ≡ true) → tally f n ≡ n
@@ -76,7 +76,7 @@ tally_all f (suc n) all = tally_yes f n (all n (omega arith)) ∙ ap suc (tally_
 -- what one number more in a list adds to the count of those that stand in it
 list_again : (x : ℕ) (xs : List ℕ) (n : ℕ) → has x xs ≡ true → tally (λ p. has p (x ∷ xs)) n ≡ tally (λ p. has p xs) n
 list_again x xs n in_it =
-    tally_alike (λ p. has p (x ∷ xs)) (λ p. has p xs) n (λ p _. ⊎_elim (λ same. or_left _ _ (eq_eqb p x same) ∙ sym (subst (λ q. has q xs ≡ true) (sym same) in_it)) (λ other. ap (λ e. e || has p xs) (ne_eqb p x other)) (cases_eq p x))
+    tally_alike (λ p. has p (x ∷ xs)) (λ p. has p xs) n (λ p _. ⊎_elim (λ same. or_left _ _ (eq-eqb p x same) ∙ sym (subst (λ q. has q xs ≡ true) (sym same) in_it)) (λ other. ap (λ e. e || has p xs) (ne_eqb p x other)) (cases_eq p x))
 
 list_more : (x : ℕ) (xs : List ℕ) (n : ℕ) → tally (λ p. has p (x ∷ xs)) n ≤ suc (tally (λ p. has p xs) n)
 list_more x xs zero = omega arith
@@ -84,7 +84,7 @@ list_more x xs (suc n) =
     ⊎_elim
     (λ same.
     let last : tally (λ p. has p (x ∷ xs)) n ≡ tally (λ p. has p xs) n = tally_alike _ _ n (λ p low. ap (λ e. e || has p xs) (ne_eqb p x (λ e. absurd (omega arith)))) in
-    let yes_more = tally_yes (λ p. has p (x ∷ xs)) n (or_left _ _ (eq_eqb n x same)) in
+    let yes_more = tally_yes (λ p. has p (x ∷ xs)) n (or_left _ _ (eq-eqb n x same)) in
     let rises = tally_rises (λ p. has p xs) n in
     omega arith)
     (λ other.

@@ -5,7 +5,7 @@ use Rattle.std.proofs.Common.{ap, subst, ◌∙◌, inl, inr, ⊎_elim, arith}
 use Rattle.std.proofs.Math.Nat.{div-eq_of_lt}
 use Rattle.std.specs.Int.Bits.{bit_or, or_zero_r}
 use Rattle.std.proofs.lemmas.Nat.{shr-shr, shr_below, shl-shr, pow-add, pow_below, and_mask, or_shr, or_mod}
-use Rattle.std.proofs.lemmas.Bool.{cases_Bool, cases_eq, cases_lt, cond-true, cond-false, eqb-false, eqb-true, eq_eqb, ne_eqb, or_left}
+use Rattle.std.proofs.lemmas.Bool.{cases_Bool, cases_eq, cases_lt, cond-true, cond-false, eqb-false, eqb-true, eq-eqb, ne_eqb, or_left}
 use Rattle.order.specs.Sets.{has, Member, lowest, least}
 
 -- what the code tests
@@ -92,7 +92,7 @@ least_none m none = sym (all_off m 0 16 (λ j _ below. none j (omega arith)))
 
 -- from the code's test to the set, and back
 pub on_from : (m k : ℕ) → bit_and (m / 2 ^ k) 1 ≡ 1 → has m k ≡ true
-on_from m k e = eq_eqb (m / 2 ^ k % 2) 1 (sym (bit_tested m k) ∙ e)
+on_from m k e = eq-eqb (m / 2 ^ k % 2) 1 (sym (bit_tested m k) ∙ e)
 
 pub off_from : (m k : ℕ) → (bit_and (m / 2 ^ k) 1 ≢ 1) → has m k ≡ false
 off_from m k e = ne_eqb (m / 2 ^ k % 2) 1 (λ is. e (bit_tested m k ∙ is))
@@ -133,7 +133,7 @@ has-bit_or m k j =
     ⊎_elim
     (λ here.
     let set = low_bits m (2 ^ k) j ∙ ap (bit_or (m / 2 ^ j % 2)) (ap (λ i. 2 ^ k / 2 ^ i % 2) here ∙ same_power k) ∙ or_one (m / 2 ^ j) in
-    eq_eqb (bit_or m (2 ^ k) / 2 ^ j % 2) 1 set ∙ sym (or_left (j == k) (has m j) (eq_eqb j k here)))
+    eq-eqb (bit_or m (2 ^ k) / 2 ^ j % 2) 1 set ∙ sym (or_left (j == k) (has m j) (eq-eqb j k here)))
     (λ other.
     let kept = low_bits m (2 ^ k) j ∙ ap (bit_or (m / 2 ^ j % 2)) (other_power j k other) ∙ or_zero_r (m / 2 ^ j % 2) in
     ap (λ x. nat_eq x 1) kept ∙ ap (λ b. b || has m j) (sym (ne_eqb j k other)))
@@ -143,6 +143,6 @@ has-bit_or m k j =
 pub one_bit : (k j : ℕ) → has (2 ^ k) j ≡ (j == k)
 one_bit k j =
     ⊎_elim
-    (λ here. eq_eqb (2 ^ k / 2 ^ j % 2) 1 (ap (λ i. 2 ^ k / 2 ^ i % 2) here ∙ same_power k) ∙ sym (eq_eqb j k here))
+    (λ here. eq-eqb (2 ^ k / 2 ^ j % 2) 1 (ap (λ i. 2 ^ k / 2 ^ i % 2) here ∙ same_power k) ∙ sym (eq-eqb j k here))
     (λ other. ne_eqb (2 ^ k / 2 ^ j % 2) 1 (λ is. let none = other_power j k other in omega arith) ∙ sym (ne_eqb j k other))
     (cases_eq j k)

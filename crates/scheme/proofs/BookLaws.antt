@@ -1,7 +1,7 @@
 -- What a book's invariant gives. Assumes nothing.
 use Rattle.std.proofs.Common.{◌≡◌, ℕ, suc, ◌+◌, ◌-◌, ◌^◌, ◌<◌, ◌≤◌, Bool, true, false, cond, ◌&&◌, eqb, ltb, List, [], ◌∷◌, ◌++◌, length, get_or, take, set, sym, refl, ap, ◌∙◌, subst, ⊎_elim, arith, length-set, length-take-le, get_or-take}
 use Rattle.std.proofs.lemmas.List.{take_more_set}
-use Rattle.std.proofs.lemmas.Bool.{cases_Bool, cases_eq, cases_lt, cond-true, cond-false, and_left, and_right, and_from, eqb-true, eq_eqb, ne_eqb, lt_ltb, le-ltb, both_ways}
+use Rattle.std.proofs.lemmas.Bool.{cases_Bool, cases_eq, cases_lt, cond-true, cond-false, and_left, and_right, and_from, eqb-true, eq-eqb, ne_eqb, lt-ltb, le-ltb, both_ways}
 use Rattle.std.proofs.lemmas.Bool.Decides.{Decides-eqb, same_from_decides, Decides-like}
 use Rattle.counting.specs.Lists.{has, distinct, below, tally}
 use Rattle.counting.proofs.Pushes.{distinct_push, below_push}
@@ -40,7 +40,7 @@ module _ (b : Book) where
       let line : get_or front (m - 1) 0 ≡ get_or b.lines.now (m - 1) 0 = get_or-take b.used b.lines.now (m - 1) 0 (omega arith) in
       let to : get_or b.lines.now (m - 1) 0 ≡ p → marks b p ≡ m = λ e. ap (line_of 1 front) (sym (line ∙ e)) ∙ line_at 1 front (m - 1) b.apart (omega arith) ∙ omega arith in
       let from : marks b p ≡ m → get_or b.lines.now (m - 1) 0 ≡ p = λ e. sym line ∙ (line_stands 1 front p m e some).there in
-      same_from_decides _ _ (Decides-eqb (get_or b.lines.now (m - 1) 0) p) (Decides-like _ from to (Decides-eqb (marks b p) m)) ∙ sym (ap (λ t. t && eqb (marks b p) m) (lt_ltb 0 m some))
+      same_from_decides _ _ (Decides-eqb (get_or b.lines.now (m - 1) 0) p) (Decides-like _ from to (Decides-eqb (marks b p) m)) ∙ sym (ap (λ t. t && eqb (marks b p) m) (lt-ltb 0 m some))
 
   pub check_zero : (p m : ℕ) → m ≤ 0 → false ≡ checks (marks b) p m
   check_zero p m none = sym (and_left _ _ (le-ltb 0 m none))
@@ -100,7 +100,7 @@ writes_none b p m stale = record { new = λ is. absurd (both_ways (fresh b p) st
 
 pub writes_next : (b b' : Book) (p m : ℕ) → p < b.count → marks b p ≡ 0 → NextLine b p b' m → Written b p b' m
 writes_next b b' p m low none next =
-    let is : fresh b p ≡ true = and_from _ _ (lt_ltb p b.count low) (eq_eqb (marks b p) 0 none) in
+    let is : fresh b p ≡ true = and_from _ _ (lt-ltb p b.count low) (eq-eqb (marks b p) 0 none) in
     record { new = λ _. next; old = λ stale. absurd (both_ways (fresh b p) stale is) }
 
 pub stale_outside : (b : Book) (p : ℕ) → b.count ≤ p → fresh b p ≡ false

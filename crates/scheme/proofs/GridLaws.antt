@@ -5,7 +5,7 @@ use lib.Bits.{bit_and, bit_or}
 use lib.ListN.{length-replicate}
 use Rattle.std.proofs.lemmas.Nat.{div-add-mod', one_shl, mod_below}
 use Rattle.std.proofs.lemmas.List.{get_or-replicate, get_or_past}
-use Rattle.std.proofs.lemmas.Bool.{cases_Bool, cases_eq, cases_lt, cond-true, cond-false, and_parts, and_from, and_left, and_right, or_left, eqb-true, eq_eqb, ne_eqb, lt_ltb, le-ltb, ltb-true, both_ways}
+use Rattle.std.proofs.lemmas.Bool.{cases_Bool, cases_eq, cases_lt, cond-true, cond-false, and_parts, and_from, and_left, and_right, or_left, eqb-true, eq-eqb, ne_eqb, lt-ltb, le-ltb, ltb-true, both_ways}
 use Rattle.counting.specs.Lists.{tally}
 use Rattle.counting.proofs.Tallies.{tally_alike, tally_more, tally_most, tally_none}
 use Rattle.order.specs.Sets.{has}
@@ -50,14 +50,14 @@ bit_set words p q v low is =
     alike : q / 64 ≡ p / 64 → eqb (q % 64) (p % 64) ≡ eqb q p
     alike word =
         ⊎_elim
-        (λ bit. eq_eqb (q % 64) (p % 64) bit ∙ sym (eq_eqb q p (same_place p q word bit)))
+        (λ bit. eq-eqb (q % 64) (p % 64) bit ∙ sym (eq-eqb q p (same_place p q word bit)))
         (λ other. ne_eqb (q % 64) (p % 64) other ∙ sym (ne_eqb q p (λ e. other (ap (λ x. x % 64) e))))
         (cases_eq (q % 64) (p % 64))
 
 -- the count of signed places
 module _ (g : Grid) (p : ℕ) where
   pub marked_on : p < g.count → bit_at g.bits p ≡ true → grid_marks g p ≡ p + 1
-  marked_on low on = cond-true _ _ _ (and_from _ _ (lt_ltb p g.count low) on)
+  marked_on low on = cond-true _ _ _ (and_from _ _ (lt-ltb p g.count low) on)
 
   pub marked_off : bit_at g.bits p ≡ false → grid_marks g p ≡ 0
   marked_off off = cond-false _ _ _ (and_right _ _ off)
@@ -65,7 +65,7 @@ module _ (g : Grid) (p : ℕ) where
   shown : p < g.count → bit_at g.bits p ≡ ltb 0 (grid_marks g p)
   shown low =
       ⊎_elim
-      (λ on. on ∙ sym (lt_ltb 0 (grid_marks g p) (let e = marked_on low on in omega arith)))
+      (λ on. on ∙ sym (lt-ltb 0 (grid_marks g p) (let e = marked_on low on in omega arith)))
       (λ off. off ∙ sym (le-ltb 0 (grid_marks g p) (let e = marked_off off in omega arith)))
       (cases_Bool (bit_at g.bits p))
 
@@ -78,7 +78,7 @@ signed_most g = let most = tally_most (bit_at g.bits) g.count in let few = g.few
 -- one more signed place
 pub tally_set : (bits bits' : List ℕ) (n p : ℕ) → p < n → bit_at bits p ≡ false → ((q : ℕ) → bit_at bits' q ≡ (eqb q p || bit_at bits q)) → tally (bit_at bits') n ≡ suc (tally (bit_at bits) n)
 tally_set bits bits' n p low off set =
-    tally_more (bit_at bits) (bit_at bits') n p low off (set p ∙ or_left _ _ (eq_eqb p p refl)) (λ q other. set q ∙ ap (λ b. b || bit_at bits q) (ne_eqb q p other))
+    tally_more (bit_at bits) (bit_at bits') n p low off (set p ∙ or_left _ _ (eq-eqb p p refl)) (λ q other. set q ∙ ap (λ b. b || bit_at bits q) (ne_eqb q p other))
 
 -- the ledger
 module _ (g : Grid) (p : ℕ) where
@@ -98,7 +98,7 @@ module _ (g : Grid) (p : ℕ) where
       record {
         outside = λ high. absurd (omega arith);
         marked = λ _. omega arith;
-        recorded = cond-true _ _ _ (and_from _ _ (lt_ltb p g'.count (subst (λ n. p < n) (sym new.count) low)) (new.bits p ∙ or_left _ _ (eq_eqb p p refl)));
+        recorded = cond-true _ _ _ (and_from _ _ (lt-ltb p g'.count (subst (λ n. p < n) (sym new.count) low)) (new.bits p ∙ or_left _ _ (eq-eqb p p refl)));
         kept = λ some. absurd (omega arith);
         others = λ q other. (λ i. cond (ltb q (new.count i) && (new.bits q ∙ ap (λ b. b || bit_at g.bits q) (ne_eqb q p other)) i) (q + 1) 0);
       }
@@ -108,7 +108,7 @@ module _ (g : Grid) (p : ℕ) where
   grid_check_on m low on =
       let is = marked_on g p low on in
       ⊎_elim
-      (λ same. eq_eqb m (p + 1) same ∙ sym (and_from _ _ (lt_ltb 0 m (omega arith)) (eq_eqb (grid_marks g p) m (is ∙ sym same))))
+      (λ same. eq-eqb m (p + 1) same ∙ sym (and_from _ _ (lt-ltb 0 m (omega arith)) (eq-eqb (grid_marks g p) m (is ∙ sym same))))
       (λ other. ne_eqb m (p + 1) other ∙ sym (and_right _ _ (ne_eqb (grid_marks g p) m (λ e. other (sym e ∙ is)))))
       (cases_eq m (p + 1))
 

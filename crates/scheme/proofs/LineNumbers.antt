@@ -1,7 +1,7 @@
 -- The line of a place among lines with different places. Assumes nothing.
 use Rattle.std.proofs.Common.{◌≡◌, ℕ, zero, suc, ◌+◌, ◌-◌, ◌<◌, ◌≤◌, Bool, true, false, cond, not, ◌&&◌, ◌||◌, eqb, ltb, List, [], ◌∷◌, ◌++◌, length, get_or, drop, sym, refl, ap, ◌∙◌, subst, ⊎_elim, arith}
 use Rattle.std.proofs.lemmas.List.{at_drop_more, at_drop_all}
-use Rattle.std.proofs.lemmas.Bool.{cases_Bool, cases_eq, cond-true, cond-false, and_parts, or_parts, or_left, or_right, eqb-true, eqb-false, eq_eqb, ne_eqb, lt_ltb, le-ltb, not-true, both_ways}
+use Rattle.std.proofs.lemmas.Bool.{cases_Bool, cases_eq, cond-true, cond-false, and_parts, or_parts, or_left, or_right, eqb-true, eqb-false, eq-eqb, ne_eqb, lt-ltb, le-ltb, not-true, both_ways}
 use Rattle.counting.specs.Lists.{has, distinct}
 use Rattle.counting.proofs.Tallies.{has_at}
 use Rattle.scheme.specs.BookLawful.{line_none}
@@ -19,14 +19,14 @@ line_some k (x ∷ xs) p low is =
 pub line_has : (xs : List ℕ) (p : ℕ) → ltb 0 (line_of 1 xs p) ≡ has p xs
 line_has xs p =
     ⊎_elim
-    (λ is. lt_ltb 0 (line_of 1 xs p) (line_some 1 xs p (omega arith) is) ∙ sym is)
+    (λ is. lt-ltb 0 (line_of 1 xs p) (line_some 1 xs p (omega arith) is) ∙ sym is)
     (λ none. le-ltb 0 (line_of 1 xs p) (let e = line_none 1 xs p none in omega arith) ∙ sym none)
     (cases_Bool (has p xs))
 
 -- the line at an index has the number after it
 pub line_at : (k : ℕ) (xs : List ℕ) (i : ℕ) → distinct xs ≡ true → i < length xs → line_of k xs (get_or xs i 0) ≡ k + i
 line_at k [] i apart on = absurd (omega arith)
-line_at k (x ∷ xs) zero apart on = cond-true _ _ _ (eq_eqb x x refl) ∙ omega arith
+line_at k (x ∷ xs) zero apart on = cond-true _ _ _ (eq-eqb x x refl) ∙ omega arith
 line_at k (x ∷ xs) (suc i) apart on =
     let a = and_parts (not (has x xs)) (distinct xs) apart in
     let here = has_at xs i (omega arith) in
@@ -56,7 +56,7 @@ line_stands k (x ∷ xs) p m is some =
 
 -- one line more
 pub line_push_new : (k : ℕ) (xs : List ℕ) (p : ℕ) → has p xs ≡ false → line_of k (xs ++ p ∷ []) p ≡ k + length xs
-line_push_new k [] p new = cond-true _ _ _ (eq_eqb p p refl) ∙ omega arith
+line_push_new k [] p new = cond-true _ _ _ (eq-eqb p p refl) ∙ omega arith
 line_push_new k (x ∷ xs) p new =
     let h = or_parts (eqb p x) (has p xs) new in
     cond-false _ _ _ h.0 ∙ line_push_new (suc k) xs p h.1 ∙ omega arith
@@ -68,7 +68,7 @@ line_push_other k (y ∷ ys) x p other = ap (λ n. cond (eqb p y) k n) (line_pus
 -- a scan for a place
 module _ (xs : List ℕ) (p i : ℕ) (so_far : line_of (i + 1) (drop i xs) p ≡ line_of 1 xs p) where
   pub line_here : i < length xs → get_or xs i 0 ≡ p → i + 1 ≡ line_of 1 xs p
-  line_here on here = sym (at_drop_more (λ l. line_of (i + 1) l p) xs i 0 on ∙ cond-true _ _ _ (eq_eqb p (get_or xs i 0) (sym here))) ∙ so_far
+  line_here on here = sym (at_drop_more (λ l. line_of (i + 1) l p) xs i 0 on ∙ cond-true _ _ _ (eq-eqb p (get_or xs i 0) (sym here))) ∙ so_far
 
   pub line_on : i < length xs → (get_or xs i 0 ≡ p → ⊥) → line_of (i + 1 + 1) (drop (i + 1) xs) p ≡ line_of 1 xs p
   line_on on other =

@@ -3,7 +3,7 @@ use Rattle.std.proofs.Common.{◌≡◌, ℕ, ◌+◌, ◌^◌, ◌<◌, ◌≤�
 use Rattle.std.specs.Str.{all_ascii_digits}
 use Rattle.std.proofs.lemmas.Fmt.{digits_decimal, digits_value-decimal, decimal-digits_value, decimal_nonempty, decimal_digit, first_decimal}
 use Rattle.std.proofs.lemmas.Str.Parse.{IsNumeralModel, numerals_by_fold}
-use Rattle.std.proofs.lemmas.Bool.{and_parts, and_from, cases_lt, cases_Bool, cond-true, cond-false, ltb-true, lt_ltb, le-leb, leb-true, not-true, eqb-true, eq_eqb}
+use Rattle.std.proofs.lemmas.Bool.{and_parts, and_from, cases_lt, cases_Bool, cond-true, cond-false, ltb-true, lt-ltb, le-leb, leb-true, not-true, eqb-true, eq-eqb}
 use Rattle.std.proofs.lemmas.Bool.Decides.{nat_tests}
 use Rattle.script.specs.Numerals.{numeral, plain, valued, largest, read}
 
@@ -18,7 +18,7 @@ module _ (n : ℕ) (small : n ≤ largest) where
   digits_of = digits_decimal own n fits
 
   pub decimal_numeral : numeral (decimal n) ≡ true
-  decimal_numeral = and_from _ _ digits_of (lt_ltb 0 (length (decimal n)) (decimal_nonempty n fits))
+  decimal_numeral = and_from _ _ digits_of (lt-ltb 0 (length (decimal n)) (decimal_nonempty n fits))
 
   decimal_plain : plain (decimal n) ≡ true
   decimal_plain =
@@ -50,4 +50,4 @@ read_decimal ds is some =
     was false h = h
 
     alone : plain ds ≡ true → get_or ds 0 0 ≡ 48 → 0 < length ds → length ds ≡ 1
-    alone h zero long = let first = eq_eqb (get_or ds 0 0) 48 zero in grind (arith, nat_tests)
+    alone h zero long = let first = eq-eqb (get_or ds 0 0) 48 zero in grind (arith, nat_tests)

@@ -2,7 +2,7 @@
 use Rattle.std.proofs.Common.{◌≡◌, ℕ, ◌+◌, ◌<◌, ◌≤◌, min, true, false, cond, ◌&&◌, eqb, ltb, leb, List, [], ◌∷◌, ◌++◌, length, take, sym, refl, ap, ◌∙◌, ⊎_elim, append_assoc, append-nil, add-zero, arith, length-append, length-take-le}
 use lib.Seq.{take-append-le}
 use Rattle.std.proofs.lemmas.List.{take_all}
-use Rattle.std.proofs.lemmas.Bool.{cases_Bool, cases_lt, cond-true, cond-false, and_left, lt-leb, lt_ltb, le-ltb}
+use Rattle.std.proofs.lemmas.Bool.{cases_Bool, cases_lt, cond-true, cond-false, and_left, lt-leb, lt-ltb, le-ltb}
 use Rattle.std.proofs.lemmas.Bool.Decides.{nat_tests}
 use Rattle.script.specs.Answers.{answered, form_answered, reply_text}
 use Rattle.script.specs.Brackets.{fills}
@@ -44,7 +44,7 @@ kept_front line b =
     ⊎_elim
     (λ short.
     rw (take_all 201 line (omega arith), take_all 201 (line ++ b ∷ []) (omega arith))
-    (cond-true _ _ _ (lt_ltb (length line) 201 short)))
+    (cond-true _ _ _ (lt-ltb (length line) 201 short)))
     (λ long.
     let full = length-take-le 201 line long in
     cond-false _ _ _ (le-ltb (length (take 201 line)) 201 (omega arith)) ∙ sym (take-append-le 201 line (b ∷ []) long))

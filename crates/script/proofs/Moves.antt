@@ -1,6 +1,6 @@
 -- One piece after the other. Assumes nothing.
 use Rattle.std.proofs.Common.{◌≡◌, ℕ, ◌+◌, ◌-◌, ◌^◌, ◌≤◌, min, eqb, List, [], ◌∷◌, ◌++◌, vec_items, sym, refl, ap, ◌∙◌, ⊎_elim, append_assoc, arith}
-use Rattle.std.proofs.lemmas.Bool.{cases_Bool, eq_eqb, ne_eqb}
+use Rattle.std.proofs.lemmas.Bool.{cases_Bool, eq-eqb, ne_eqb}
 use Rattle.script.specs.declared.sessions.Session.{Session}
 use Rattle.script.specs.Listing.{line_text, line_feeds, counted, kept_with, still}
 use Rattle.script.specs.Sessions.{due, Moved}
@@ -8,7 +8,7 @@ use Rattle.script.specs.Sessions.{due, Moved}
 module _ (s s' : Session) (w w' : List ℕ) (b : ℕ) where
   pub ended : b ≡ 10 → (w' ≡ w ++ line_text s.read (vec_items s.kept)) × (vec_items s'.kept ≡ []) × (s'.read ≡ counted s.read) × (s'.number ≡ min (2 ^ 64 - 1) (s.number + 1)) → Moved s w (b ∷ []) s' w'
   ended is h =
-      let e = eq_eqb b 10 is in
+      let e = eq-eqb b 10 is in
       record {
         writes = λ later. rw (h.0, h.1, h.2, e) (append_assoc w _ _);
         counts = rw e h.3;

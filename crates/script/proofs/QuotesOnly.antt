@@ -1,7 +1,7 @@
 -- No other line reads as a quote. Assumes nothing.
 use Rattle.std.proofs.Common.{◌≡◌, ℕ, zero, suc, ◌+◌, ◌-◌, ◌<◌, ◌≤◌, Bool, true, false, cond, not, ◌&&◌, eqb, leb, List, [], ◌∷◌, ◌++◌, map, length, get_or, is_some, Some, None, Ok, Err, codes, decimal, Option, Result, sym, refl, ap, ◌∙◌, subst, ⊎_elim, append_assoc, arith}
 use Rattle.std.proofs.lemmas.List.{nil_from_length}
-use Rattle.std.proofs.lemmas.Bool.{and_parts, and_from, and_right, not_from_true, not_from_false, cases_Bool, cases_eq, cond-true, cond-false, eqb-true, eq_eqb, ne_eqb}
+use Rattle.std.proofs.lemmas.Bool.{and_parts, and_from, and_right, not_from_true, not_from_false, cases_Bool, cases_eq, cond-true, cond-false, eqb-true, eq-eqb, ne_eqb}
 use Rattle.std.proofs.lemmas.Bool.Decides.{nat_tests}
 use Rattle.script.specs.declared.flaws.Flaw.{Flaw}
 use Rattle.script.specs.declared.forms.Form.{Form}
@@ -127,7 +127,7 @@ closed_last d [] h = let z : ◌≡◌ {A = ℕ} 0 1 = cc in absurd (omega arith
 closed_last d (b ∷ bs) h =
     ⊎_elim
     (λ e.
-    let last = nil_from_length bs (eqb-true (length bs) 0 (sym (cond-true _ _ _ (eq_eqb (after (suc d) b) 0 e)) ∙ h)) in
+    let last = nil_from_length bs (eqb-true (length bs) 0 (sym (cond-true _ _ _ (eq-eqb (after (suc d) b) 0 e)) ∙ h)) in
     ([], (λ k. none_left d b e k ∷ last k)))
     (λ e.
     let more : after (suc d) b ≡ suc (after (suc d) b - 1) = omega arith in

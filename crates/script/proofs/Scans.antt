@@ -3,7 +3,7 @@ use Rattle.std.proofs.Common.{◌≡◌, ℕ, suc, ◌+◌, ◌-◌, ◌<◌, �
 use Rattle.std.specs.Str.{all_ascii_digits}
 use Rattle.std.specs.Char.{is_ascii_digit}
 use Rattle.std.proofs.lemmas.List.{at_drop_more, at_drop_all, get_or_past}
-use Rattle.std.proofs.lemmas.Bool.{cond-true, cond-false, eq_eqb, eqb-true, ne_eqb, and_from, and_left, and_right}
+use Rattle.std.proofs.lemmas.Bool.{cond-true, cond-false, eq-eqb, eqb-true, ne_eqb, and_from, and_left, and_right}
 use Rattle.std.proofs.lemmas.Bool.Decides.{nat_tests}
 use Rattle.script.specs.Brackets.{after, closes, fills}
 use Rattle.script.specs.Items.{span}
@@ -21,10 +21,10 @@ module _ (bs : List ℕ) (i d : ℕ) (on : i < length bs) where
   -- and else it ends, which is right at the last byte alone
   pub closes_here : get_or bs 0 0 ≡ 40 → closes d (drop i bs) ≡ closes 0 bs → after d (get_or bs i 0) ≡ 0 → eqb (i + 1) (length bs) ≡ fills bs
   closes_here opens same none =
-      let ends : closes 0 bs ≡ eqb (length (drop (i + 1) bs)) 0 = sym same ∙ at_drop_more (closes d) bs i 0 on ∙ cond-true _ _ _ (eq_eqb (after d (get_or bs i 0)) 0 none) in
+      let ends : closes 0 bs ≡ eqb (length (drop (i + 1) bs)) 0 = sym same ∙ at_drop_more (closes d) bs i 0 on ∙ cond-true _ _ _ (eq-eqb (after d (get_or bs i 0)) 0 none) in
       let left = length-drop (i + 1) bs in
       let last : eqb (i + 1) (length bs) ≡ eqb (length (drop (i + 1) bs)) 0 = grind (arith, nat_tests) in
-      last ∙ sym ends ∙ sym (ap (λ b. b && closes 0 bs) (eq_eqb (get_or bs 0 0) 40 opens))
+      last ∙ sym ends ∙ sym (ap (λ b. b && closes 0 bs) (eq-eqb (get_or bs 0 0) 40 opens))
 
   pub deeper : d ≤ i → after d (get_or bs i 0) ≤ i + 1
   deeper low = omega (arith, after_most d (get_or bs i 0))
@@ -37,7 +37,7 @@ module _ (bs : List ℕ) (i d : ℕ) (on : i < length bs) where
 
   pub span_here : i + span d (drop i bs) ≡ span 0 bs → d ≡ 0 → get_or bs i 0 ≡ 32 → i ≡ span 0 bs
   span_here same flat space =
-      let here : span d (drop i bs) ≡ 0 = at_drop_more (span d) bs i 0 on ∙ cond-true _ _ _ (and_from _ _ (eq_eqb d 0 flat) (eq_eqb (get_or bs i 0) 32 space)) in
+      let here : span d (drop i bs) ≡ 0 = at_drop_more (span d) bs i 0 on ∙ cond-true _ _ _ (and_from _ _ (eq-eqb d 0 flat) (eq-eqb (get_or bs i 0) 32 space)) in
       omega arith
 
 pub span_all : (bs : List ℕ) (i d : ℕ) → length bs ≤ i → i ≤ length bs → i + span d (drop i bs) ≡ span 0 bs → length bs ≡ span 0 bs

@@ -1,7 +1,7 @@
 -- A text that is matched against a word, letter by letter. Assumes nothing.
 use Rattle.std.proofs.Common.{◌≡◌, ℕ, zero, suc, ◌+◌, ◌<◌, Bool, true, false, cond, ◌&&◌, eqb, List, [], ◌∷◌, length, get_or, sym, refl, ap, ◌∙◌, le_of_suc-le-suc, not-suc-le-zero, add-zero, add-suc, suc-add, zero-add, arith}
 use Rattle.std.proofs.lemmas.List.{ext_get_or}
-use Rattle.std.proofs.lemmas.Bool.{and_parts, and_from, eqb-true, eq_eqb}
+use Rattle.std.proofs.lemmas.Bool.{and_parts, and_from, eqb-true, eq-eqb}
 use Rattle.script.specs.Forms.{same}
 
 -- the letters of a word stand in bs from place k on
@@ -31,4 +31,4 @@ same_from (x ∷ xs) (y ∷ ys) h =
 
 pub same_self : (xs : List ℕ) → same xs xs ≡ true
 same_self [] = refl
-same_self (x ∷ xs) = and_from (eqb x x) (same xs xs) (eq_eqb x x refl) (same_self xs)
+same_self (x ∷ xs) = and_from (eqb x x) (same xs xs) (eq-eqb x x refl) (same_self xs)

@@ -5,7 +5,7 @@
 use Rattle.std.proofs.Common.{◌≡◌, ℕ, suc, ◌+◌, ◌<◌, ◌≤◌, Bool, true, false, not, ◌&&◌, ◌||◌, eqb, ltb, leb, List, [], ◌∷◌, length, get_or, sym, refl, ap, ◌∙◌, subst, inr, ⊎_elim, arith}
 use mathlib.Core.Path.{fun_ext}
 use mathlib.Core.Bool.{or-false}
-use Rattle.std.proofs.lemmas.Bool.{true≢false, cases_lt, and_parts, or_cases, or_left, or_right, eqb-true, eq_eqb, leb-true, ltb-true}
+use Rattle.std.proofs.lemmas.Bool.{true≢false, cases_lt, and_parts, or_cases, or_left, or_right, eqb-true, eq-eqb, leb-true, ltb-true}
 use Rattle.counting.specs.Lists.{alike, has, tally}
 use Rattle.counting.proofs.Alike.{alike_same, alike_self}
 use Rattle.weight.specs.Examples.{among, Worked}
@@ -38,7 +38,7 @@ backer_each ([] ∷ chains) l q rest on = ⊎_elim (λ here. let e = ap length (
 backer_each ((x ∷ []) ∷ chains) l q rest on = ⊎_elim (λ here. let e = ap length (alike_same (l ∷ q ∷ rest) (x ∷ []) here) in absurd (omega arith)) (λ later. backer_each chains l q rest later) (or_cases (alike (l ∷ q ∷ rest) (x ∷ [])) (among chains (l ∷ q ∷ rest)) on)
 backer_each ((x ∷ y ∷ ys) ∷ chains) l q rest on =
     ⊎_elim
-    (λ here. or_left _ _ (eq_eqb q y (ap (λ xs. get_or xs 1 0) (alike_same (l ∷ q ∷ rest) (x ∷ y ∷ ys) here))))
+    (λ here. or_left _ _ (eq-eqb q y (ap (λ xs. get_or xs 1 0) (alike_same (l ∷ q ∷ rest) (x ∷ y ∷ ys) here))))
     (λ later. or_right _ _ (backer_each chains l q rest later))
     (or_cases (alike (l ∷ q ∷ rest) (x ∷ y ∷ ys)) (among chains (l ∷ q ∷ rest)) on)
 

@@ -2,7 +2,7 @@
 --   Gathered   the places below `at` have been looked at: S has the second names of the chains there, and no others
 use Rattle.std.proofs.Common.{◌≡◌, ℕ, ◌+◌, ◌^◌, ◌<◌, ◌≤◌, true, false, ◌||◌, eqb, List, [], ◌∷◌, length, take, drop, sym, refl, ap, ◌∙◌, subst, ⊎_elim, arith}
 use lib.Bits.{bit_or, or_lt}
-use Rattle.std.proofs.lemmas.Bool.{true≢false, cases_lt, or_cases, or_left, or_right, eqb-true, eq_eqb}
+use Rattle.std.proofs.lemmas.Bool.{true≢false, cases_lt, or_cases, or_left, or_right, eqb-true, eq-eqb}
 use Rattle.counting.specs.Lists.{has}
 use Rattle.chain.specs.Chains.{Proper}
 use Rattle.chain.specs.Places.{within}
@@ -60,7 +60,7 @@ module _ (n t lead : ℕ) (part : List Cell) where
         (λ past.
         let there : within n names ≡ within n (l ∷ q ∷ rest) = omega arith in
         let same = same_names n t lead names (l ∷ q ∷ rest) p (held_proper n t lead part _ on) there in
-        or_right _ _ (is q ∙ ap (λ xs. has q (take 1 (drop 1 xs))) same ∙ or_left _ _ (eq_eqb q q refl)))
+        or_right _ _ (is q ∙ ap (λ xs. has q (take 1 (drop 1 xs))) same ∙ or_left _ _ (eq-eqb q q refl)))
         (cases_lt (within n (l ∷ q ∷ rest)) at)
 
     second_is : (q : ℕ) (xs : List ℕ) → held_in n t lead part xs ≡ true → has q (take 1 (drop 1 xs)) ≡ true → (l : ℕ) × (rest : List ℕ) × (held_in n t lead part (l ∷ q ∷ rest) ≡ true)

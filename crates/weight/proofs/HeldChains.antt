@@ -1,7 +1,7 @@
 -- The chains that the cells of one order hold. Assumes nothing.
 use Rattle.std.proofs.Common.{◌≡◌, ℕ, ◌+◌, ◌-◌, ◌*◌, ◌/◌, ◌<◌, ◌≤◌, Bool, true, false, not, ◌&&◌, ltb, List, [], ◌∷◌, length, sym, ap, ◌∙◌, ⊎_elim, arith}
 use native.Mathlib.Nat.{div-eq_of_lt}
-use Rattle.std.proofs.lemmas.Bool.{true≢false, cases_Bool, cases_lt, and_parts, and_from, and_left, ltb-true, lt_ltb}
+use Rattle.std.proofs.lemmas.Bool.{true≢false, cases_Bool, cases_lt, and_parts, and_from, and_left, ltb-true, lt-ltb}
 use Rattle.chain.specs.Chains.{Proper, is_proper}
 use Rattle.chain.specs.Places.{per_order, place_of, within}
 use Rattle.chain.proofs.Numbering.{within_low, within_high, within_all, shorter_grows}
@@ -43,7 +43,7 @@ module _ (n t lead : ℕ) (part : List Cell) (names : List ℕ) where
 -- the cells of one order among all
 pub held_same : (n t lead code : ℕ) (cells part : List Cell) → code < 16 → ((k : ℕ) → k < per_order n t → taken_at part k ≡ taken_at cells (code * per_order n t + k)) → (names : List ℕ) → held_in n t lead part names ≡ holds n t lead cells code names
 held_same n t lead code cells part low same names =
-    sym (ap (λ b. b && (is_proper n t lead names && taken_at cells (place_of n t code names))) (lt_ltb code 16 low) ∙
+    sym (ap (λ b. b && (is_proper n t lead names && taken_at cells (place_of n t code names))) (lt-ltb code 16 low) ∙
     ⊎_elim
     (λ on. sym (ap (λ b. is_proper n t lead names && b) (same (within n names) (within_all n t lead names (proper_from n t lead names on)))))
     (λ off. and_left _ _ off ∙ sym (and_left _ _ off))

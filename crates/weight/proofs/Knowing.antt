@@ -2,7 +2,7 @@
 --   KnownBelow   what is known of the orders whose codes are below `code`
 use Rattle.std.proofs.Common.{◌≡◌, ℕ, ◌+◌, ◌*◌, ◌/◌, ◌<◌, ◌≤◌, Bool, true, false, ◌&&◌, ltb, List, length, sym, refl, ap, ◌∙◌, subst, ⊎_elim, arith}
 use Rattle.std.proofs.lemmas.Nat.{div-mul-add}
-use Rattle.std.proofs.lemmas.Bool.{true≢false, cases_Bool, cases_lt, and_parts, and_from, and_left, lt_ltb, le-ltb}
+use Rattle.std.proofs.lemmas.Bool.{true≢false, cases_Bool, cases_lt, and_parts, and_from, and_left, lt-ltb, le-ltb}
 use Rattle.chain.specs.Chains.{is_proper}
 use Rattle.chain.specs.Places.{per_order, place_of, within}
 use Rattle.chain.proofs.Numbering.{onto, lead_low, within_all}
@@ -44,7 +44,7 @@ module _ (n t lead : ℕ) (cells : List Cell) where
         let N = per_order n t in
         let chain = onto n t lead (code * N + i) leads in
         let is : place_of n t code chain.names ≡ code * N + i = ap (λ c. place_of n t c chain.names) (sym (div-mul-add code N i (omega arith))) ∙ chain.there in
-        (chain.names, and_from _ _ (lt_ltb code 16 low) (and_from _ _ (proper_test n t lead chain.names chain.proper) (ap (taken_at cells) is ∙ sym (same i (omega arith)) ∙ on)))
+        (chain.names, and_from _ _ (lt-ltb code 16 low) (and_from _ _ (proper_test n t lead chain.names chain.proper) (ap (taken_at cells) is ∙ sym (same i (omega arith)) ∙ on)))
 
     pub none_held : ((i : ℕ) → taken_at part i ≡ false) → (names : List ℕ) → holds n t lead cells code names ≡ false
     none_held none names =

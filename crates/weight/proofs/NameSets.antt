@@ -4,7 +4,7 @@ use native.Mathlib.Nat.{div-eq_of_lt, zero-div}
 use lib.Bits.{bit_and, bit_or, and_shr, and_mod, and_le_l, or_shr, or_mod, or_lt}
 use lib.Count.{ones, ones_step, ones-le}
 use Rattle.std.proofs.lemmas.Nat.{pow-add, pow_below, one_shl}
-use Rattle.std.proofs.lemmas.Bool.{cases_Bool, cases_lt, cond-true, cond-false, and_left, eq_eqb, ne_eqb, not_from_true, not_from_false}
+use Rattle.std.proofs.lemmas.Bool.{cases_Bool, cases_lt, cond-true, cond-false, and_left, eq-eqb, ne_eqb, not_from_true, not_from_false}
 use Rattle.counting.specs.Lists.{tally}
 use Rattle.counting.proofs.Tallies.{tally_yes, tally_no, tally_alike}
 use Rattle.order.specs.Sets.{has as in_mask}
@@ -45,8 +45,8 @@ complement_bit (suc k) zero b low here =
     let power = twice k in
     let flipped : (2 ^ suc k - 1 - b) % 2 + b % 2 ≡ 1 = omega arith in
     ⊎_elim
-    (λ even. eq_eqb _ 1 (omega arith) ∙ sym (not_from_false _ (ne_eqb _ 1 (λ e. omega arith))))
-    (λ odd. ne_eqb _ 1 (λ e. omega arith) ∙ sym (not_from_true _ (eq_eqb _ 1 (omega arith))))
+    (λ even. eq-eqb _ 1 (omega arith) ∙ sym (not_from_false _ (ne_eqb _ 1 (λ e. omega arith))))
+    (λ odd. ne_eqb _ 1 (λ e. omega arith) ∙ sym (not_from_true _ (eq-eqb _ 1 (omega arith))))
     (halves b)
 complement_bit (suc k) (suc q) b low here =
     let power = twice k in
@@ -70,7 +70,7 @@ first_bit : (m : ℕ) → m % 2 ≡ cond (in_mask m 0) 1 0
 first_bit m =
     ⊎_elim
     (λ even. even ∙ sym (cond-false _ _ _ (ne_eqb (m / 2 ^ 0 % 2) 1 (λ e. omega arith))))
-    (λ odd. odd ∙ sym (cond-true _ _ _ (eq_eqb (m / 2 ^ 0 % 2) 1 (omega arith))))
+    (λ odd. odd ∙ sym (cond-true _ _ _ (eq-eqb (m / 2 ^ 0 % 2) 1 (omega arith))))
     (halves m)
 
 -- how many a set has

@@ -1,7 +1,7 @@
 -- The rounds at which switches have stopped waiting, after a close. Assumes nothing.
 --   left_after   0 for a switch that still waits; the closed round for one that waited until now; as before for the others
 use Rattle.std.proofs.Common.{◌≡◌, ℕ, suc, ◌≤◌, cond, eqb, ◌≢◌, sym, ◌∙◌, inl, inr, ⊎_elim, arith}
-use Rattle.std.proofs.lemmas.Bool.{cases_eq, cond-true, cond-false, eq_eqb, ne_eqb}
+use Rattle.std.proofs.lemmas.Bool.{cases_eq, cond-true, cond-false, eq-eqb, ne_eqb}
 use Rattle.protocol.specs.Rings.{Ring, Follows}
 use Rattle.protocol.specs.Rounds.{Closed}
 use Rattle.protocol.specs.States.{State}
@@ -16,7 +16,7 @@ left_after s s' left p = cond (eqb (kind (s'.standing p)) 1) 0 (cond (eqb (left 
 module _ (s s' : State) (left : ℕ → ℕ) (p : ℕ) where
   pub left_waits : kind (s'.standing p) ≡ 1 → left_after s s' left p ≡ 0
   unfolding left_after
-  left_waits waits = cond-true _ _ _ (eq_eqb _ _ waits)
+  left_waits waits = cond-true _ _ _ (eq-eqb _ _ waits)
 
   -- one that does not wait after the close
   left_out : kind (s'.standing p) ≢ 1 → left_after s s' left p ≡ cond (eqb (left p) 0) (suc s.closed) (left p)
@@ -24,7 +24,7 @@ module _ (s s' : State) (left : ℕ → ℕ) (p : ℕ) where
   left_out out = cond-false _ _ _ (ne_eqb _ _ out)
 
   pub left_now : kind (s'.standing p) ≢ 1 → left p ≡ 0 → left_after s s' left p ≡ suc s.closed
-  left_now out waited = left_out out ∙ cond-true _ _ _ (eq_eqb _ _ waited)
+  left_now out waited = left_out out ∙ cond-true _ _ _ (eq-eqb _ _ waited)
 
   pub left_before : kind (s'.standing p) ≢ 1 → left p ≢ 0 → left_after s s' left p ≡ left p
   left_before out gone = left_out out ∙ cond-false _ _ _ (ne_eqb _ _ gone)

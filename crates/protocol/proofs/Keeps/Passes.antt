@@ -2,7 +2,7 @@
 -- Assumes nothing.
 use Rattle.std.proofs.Common.{◌≡◌, ℕ, suc, ◌+◌, ◌<◌, ◌≤◌, true, List, [], ◌∷◌, ◌++◌, length, take, sym, refl, ap, ◌∙◌, subst, arith}
 use Rattle.std.proofs.lemmas.List.{take-append-le}
-use Rattle.std.proofs.lemmas.Bool.{and_from, lt_ltb}
+use Rattle.std.proofs.lemmas.Bool.{and_from, lt-ltb}
 use Rattle.counting.proofs.Splits.{length_push, last_same}
 use Rattle.chain.specs.Chains.{Proper}
 use Rattle.chain.proofs.ProperChains.{proper_more}
@@ -15,7 +15,7 @@ use Rattle.protocol.proofs.Keeps.Stands.{lead_order}
 
 -- the chain of the lead alone
 pub alone_proper : (g : Ring) → Fair g → Proper g.n g.t g.lead (g.lead ∷ [])
-alone_proper g fair = record { others = []; split = refl; short = omega arith; within = and_from _ _ (lt_ltb g.lead g.n fair.leads) refl; apart = refl }
+alone_proper g fair = record { others = []; split = refl; short = omega arith; within = and_from _ _ (lt-ltb g.lead g.n fair.leads) refl; apart = refl }
 
 module _ (g : Ring) (fair : Fair g) (s : State) (inv : Invariant g s) where
   -- a sound switch that holds a chain is not the lead

@@ -1,6 +1,6 @@
 -- What the tests of the run under a sound lead say. Assumes nothing.
 use Rattle.std.proofs.Common.{◌≡◌, ℕ, ◌<◌, true, not, ◌&&◌, eqb, ◌≢◌, ◌⊎◌, List, [], ◌∷◌, ap, ◌∙◌, inl, inr, ⊎_elim, arith}
-use Rattle.std.proofs.lemmas.Bool.{and_parts, and_from, cases_eq, or_cases, eq_eqb, eqb-true, eqb-false, not-true}
+use Rattle.std.proofs.lemmas.Bool.{and_parts, and_from, cases_eq, or_cases, eq-eqb, eqb-true, eqb-false, not-true}
 use Rattle.counting.specs.Lists.{alike}
 use Rattle.counting.proofs.Alike.{alike_same, alike_self}
 use Rattle.protocol.specs.LedRing.{chain, backed, second_sent}
@@ -9,7 +9,7 @@ pub is_chain : (whole : List ℕ) (m : ℕ) (names : List ℕ) → chain whole m
 is_chain whole m names on = let parts = and_parts (eqb m 1) (alike names whole) on in (eqb-true m 1 parts.0, alike_same names whole parts.1)
 
 pub chain_is : (whole : List ℕ) (m : ℕ) (names : List ℕ) → m ≡ 1 → names ≡ whole → chain whole m names ≡ true
-chain_is whole m names one same = and_from (eqb m 1) (alike names whole) (eq_eqb m 1 one) (ap (λ l. alike l whole) same ∙ alike_self whole)
+chain_is whole m names one same = and_from (eqb m 1) (alike names whole) (eq-eqb m 1 one) (ap (λ l. alike l whole) same ∙ alike_self whole)
 
 -- 1 and 2 are the switches other than the lead
 pub one_or_two : (p : ℕ) → p < 3 → p ≢ 0 → (p ≡ 1) ⊎ (p ≡ 2)

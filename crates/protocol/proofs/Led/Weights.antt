@@ -1,6 +1,6 @@
 -- The weight of order 1 after round 2 of the run under a sound lead: two switches back it, and it weighs 4. Assumes nothing.
 use Rattle.std.proofs.Common.{◌≡◌, ℕ, ◌≤◌, Bool, true, not, ◌&&◌, ◌||◌, eqb, ◌⊎◌, List, [], ◌∷◌, length, sym, ap, subst, inr, ⊎_elim, arith}
-use Rattle.std.proofs.lemmas.Bool.{and_parts, eq_eqb, eqb-true, or_cases, or_left, or_right}
+use Rattle.std.proofs.lemmas.Bool.{and_parts, eq-eqb, eqb-true, or_cases, or_left, or_right}
 use Rattle.counting.proofs.Crowds.{tally_grows}
 use Rattle.counting.specs.Lists.{has, tally}
 use Rattle.weight.specs.Weights.{Weight, Bears, hidden}
@@ -29,5 +29,5 @@ weighs_four held one two only =
     each l q rest here =
         ⊎_elim
         (λ short. let long = ap length short in absurd (omega arith))
-        (⊎_elim (λ both. or_left (eqb q 1) (eqb q 2) (eq_eqb q 1 cc)) (λ both. or_right (eqb q 1) (eqb q 2) (eq_eqb q 2 cc)))
+        (⊎_elim (λ both. or_left (eqb q 1) (eqb q 2) (eq-eqb q 1 cc)) (λ both. or_right (eqb q 1) (eqb q 2) (eq-eqb q 2 cc)))
         (only (l ∷ q ∷ rest) here)

@@ -2,7 +2,7 @@
 --   Reached   switch j holds a chain of order m
 use Rattle.std.proofs.Common.{◌≡◌, ℕ, suc, ◌+◌, ◌-◌, ◌<◌, ◌≤◌, Bool, true, false, not, ◌&&◌, ◌||◌, eqb, List, [], ◌∷◌, ◌++◌, length, take, drop, sym, refl, ap, ◌∙◌, subst, ⊎_elim, arith}
 use Rattle.std.proofs.lemmas.List.{take_all, length-take-le}
-use Rattle.std.proofs.lemmas.Bool.{and_parts, both_ways, cases_Bool, cases_eq, cases_lt, eq_eqb, eqb-true, not-true, or_cases, or_left, or_right}
+use Rattle.std.proofs.lemmas.Bool.{and_parts, both_ways, cases_Bool, cases_eq, cases_lt, eq-eqb, eqb-true, not-true, or_cases, or_left, or_right}
 use Rattle.counting.specs.Lists.{has, tally}
 use Rattle.counting.proofs.Crowds.{Both, crowd, tally_apart, tally_grows}
 use Rattle.counting.proofs.Prefixes.{below-take, distinct-take}
@@ -57,7 +57,7 @@ module _ (g : Ring) (fair : Fair g) (s : State) (inv : Invariant g s) (j m r : �
       (λ in_it. reached_through p q r names (omega arith) follows here (low, sound, other) in_it)
       (λ backs.
       let by = seconds.only q backs in
-      reached_through p q 2 (by.0 ∷ q ∷ by.1) two follows by.2 (low, sound, other) (or_right _ _ (or_left _ _ (eq_eqb q q refl))))
+      reached_through p q 2 (by.0 ∷ q ∷ by.1) two follows by.2 (low, sound, other) (or_right _ _ (or_left _ _ (eq-eqb q q refl))))
       (or_cases (has q (take r names)) (S q) on))
       (cases_eq q g.lead)
 

@@ -1,7 +1,7 @@
 -- Chains that bear a weight because another one does, which hides as many backers or more. Assumes nothing.
 use Rattle.std.proofs.Common.{◌≡◌, ℕ, zero, suc, ◌+◌, ◌-◌, ◌<◌, ◌≤◌, Bool, true, false, not, ◌&&◌, eqb, List, [], ◌∷◌, ◌++◌, length, take, sym, refl, ap, ◌∙◌, subst, arith}
 use Rattle.std.proofs.lemmas.List.{take_all, take-append-le}
-use Rattle.std.proofs.lemmas.Bool.{and_parts, and_from, both_ways, eq_eqb, ne_eqb, not-true, not_from_false, or_from, or_left, or_parts}
+use Rattle.std.proofs.lemmas.Bool.{and_parts, and_from, both_ways, eq-eqb, ne_eqb, not-true, not_from_false, or_from, or_left, or_parts}
 use Rattle.counting.specs.Lists.{has}
 use Rattle.counting.proofs.Crowds.{tally_grows, tally_one_less}
 use Rattle.counting.proofs.Prefixes.{has-take}
@@ -19,7 +19,7 @@ take_front (suc k) (x ∷ xs) ys q none =
 -- the first of a list is among its first k, if k is not 0
 head_taken : (k x : ℕ) (xs : List ℕ) → 1 ≤ k → has x (take k (x ∷ xs)) ≡ true
 head_taken zero x xs some = absurd (omega arith)
-head_taken (suc k) x xs some = or_left _ _ (eq_eqb x x refl)
+head_taken (suc k) x xs some = or_left _ _ (eq-eqb x x refl)
 
 -- backers S of one chain, and S', at least these, of the other
 module _ (n t : ℕ) (S S' : ℕ → Bool) (more : (q : ℕ) → S q ≡ true → S' q ≡ true) (w : ℕ) where

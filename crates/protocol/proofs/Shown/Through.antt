@@ -3,7 +3,7 @@
 --             that waited in the round of q's signature
 use Rattle.std.proofs.Common.{◌≡◌, ℕ, suc, ◌<◌, ◌≤◌, true, not, eqb, ltb, ◌≢◌, List, [], ◌∷◌, ◌++◌, length, get_or, take, drop, sym, ap, ◌∙◌, subst, inl, inr, ⊎_elim, arith, take-append-drop, length-take}
 use Rattle.std.proofs.lemmas.List.{append_assoc}
-use Rattle.std.proofs.lemmas.Bool.{and_parts, both_ways, eq_eqb, ltb-true, not-true, or_left}
+use Rattle.std.proofs.lemmas.Bool.{and_parts, both_ways, eq-eqb, ltb-true, not-true, or_left}
 use Rattle.counting.specs.Lists.{has, below, distinct}
 use Rattle.counting.proofs.Splits.{split_at, take_to, length_front}
 use Rattle.protocol.specs.Rings.{Ring, Fair, Follows}
@@ -40,7 +40,7 @@ module _ (g : Ring) (fair : Fair g) (s : State) (inv : Invariant g s) where
       let once = not-true (has l (q ∷ rest)) (and_parts (not (has l (q ∷ rest))) (distinct (q ∷ rest)) proper.apart).0 in (
         first,
         ltb-true q g.n (and_parts (ltb q g.n) (below g.n rest) low).0,
-        λ same. both_ways (has l (q ∷ rest)) once (or_left (eqb l q) (has l rest) (eq_eqb l q (first ∙ sym same))),
+        λ same. both_ways (has l (q ∷ rest)) once (or_left (eqb l q) (has l rest) (eq-eqb l q (first ∙ sym same))),
       )
 
   pub through : (p m q x : ℕ) (names : List ℕ) → Follows g p → s.taken p m names ≡ true → Follows g q → has q (take x names) ≡ true → Through g s inv.left m x names

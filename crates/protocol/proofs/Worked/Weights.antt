@@ -1,6 +1,6 @@
 -- The weights of the worked run: 0 where no chain of two names is held, and 3 for order 1 at the end. Assumes nothing.
 use Rattle.std.proofs.Common.{◌≡◌, ℕ, ◌<◌, ◌≤◌, Bool, true, false, not, ◌&&◌, eqb, ◌⊎◌, List, [], ◌∷◌, length, sym, refl, ap, subst, inl, inr, ⊎_elim, arith}
-use Rattle.std.proofs.lemmas.Bool.{and_parts, eq_eqb, eqb-true, false≢true}
+use Rattle.std.proofs.lemmas.Bool.{and_parts, eq-eqb, eqb-true, false≢true}
 use Rattle.counting.proofs.Crowds.{tally_grows}
 use Rattle.counting.specs.Lists.{has, tally}
 use Rattle.weight.specs.Weights.{Weight, Bears, hidden}
@@ -38,5 +38,5 @@ weighs_three held two only =
     each l q rest here =
         ⊎_elim
         (λ short. let long = ap length short in absurd (omega arith))
-        (λ both. eq_eqb q 1 cc)
+        (λ both. eq-eqb q 1 cc)
         (only (l ∷ q ∷ rest) here)
