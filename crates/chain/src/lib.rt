@@ -1,4 +1,6 @@
 // Chains of names: an order's way from the lead through switches that signed it.
+#![tactic(auto)]
+
 mod chains;
 mod counts;
 mod lists;

@@ -1,4 +1,6 @@
 // Kinds of order, each a set of values with codes, and choices, each a rule that takes one code from a set.
+#![tactic(auto)]
+
 mod choices;
 mod kinds;
 mod links;

@@ -1,5 +1,7 @@
 // The rounds of a ring as a relation between states, and what is promised of every run. The rules that switches keep are
 // in specs/, the argument is in proofs/, and there is nothing to run but the type of a standing.
+#![tactic(auto)]
+
 ghost use Rattle.protocol.specs.Closable.{Closable};
 ghost use Rattle.protocol.specs.LedRun.{LedRun};
 ghost use Rattle.protocol.specs.Promises.{Promised};

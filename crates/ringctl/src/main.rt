@@ -1,4 +1,6 @@
 // Answers the script on standard input, a line for each line, as it comes.
+#![tactic(auto)]
+
 use script::Session;
 use std::io::{Read, Write};
 

@@ -1,4 +1,6 @@
 // Signing schemes, each by its ledger: which places are signed, and by which marks.
+#![tactic(auto)]
+
 mod books;
 mod counts;
 mod grids;

@@ -1,4 +1,6 @@
 // The script: a line's items, the form that they make, and the answer that it gets.
+#![tactic(auto)]
+
 mod answers;
 mod brackets;
 mod flaws;

@@ -1,4 +1,6 @@
 // A ring's size and tolerance as one checked value, and the round by which its switches have acted.
+#![tactic(auto)]
+
 mod quotes;
 mod refusals;
 mod settings;

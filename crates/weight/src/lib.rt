@@ -1,4 +1,6 @@
 // The cells of one switch, and how heavily its chains speak for an order.
+#![tactic(auto)]
+
 mod bearing;
 mod cells;
 mod knowns;

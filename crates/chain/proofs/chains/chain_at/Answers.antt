@@ -4,29 +4,29 @@ use Rattle.chain.proofs.FirstFaults.{some_none}
 use Rattle.chain.proofs.Numbering.{apart, some_chain, code_of, lead_low}
 use Rattle.chain.proofs.chains.chain_at.Goals as goal
 
-pub returns-in-err-names : goal.returns-in-err-names
-returns-in-err-names g c =
-    let outside = c.in-err-names.ensures in
-    rw c.from-residual.ensures
+pub returns-in_err-names : goal.returns-in_err-names
+returns-in_err-names g c =
+    let outside = c.in_err-names.ensures in
+    rw c.from_residual.ensures
     (record { chain = tt; back = λ v names p is. let low = lead_low _ _ _ names p in absurd (omega arith) })
 
-pub nonzero-div-place : goal.nonzero-div-place
-nonzero-div-place g c = let value = c.chains-per-order.ensures.value in let some = some_chain c.args.setting.now.size c.args.setting.now.tolerance in omega arith
+pub nonzero_div-place : goal.nonzero_div-place
+nonzero_div-place g c = let value = c.chains_per_order.ensures.value in let some = some_chain c.args.setting.now.size c.args.setting.now.tolerance in omega arith
 
-pub returns-in-err-order : goal.returns-in-err-order
-returns-in-err-order g c =
-    let told = c.in-err-order.ensures.back in
-    rw c.from-residual-in-err-order.ensures
-    (record { chain = tt; back = λ v names p is. some_none v (sym (told v (code_of _ _ _ _ _ _ p is ∙ ap (λ n. c.args.place / n) (sym c.chains-per-order.ensures.value)))) })
+pub returns-in_err-order : goal.returns-in_err-order
+returns-in_err-order g c =
+    let told = c.in_err-order.ensures.back in
+    rw c.from_residual-in_err-order.ensures
+    (record { chain = tt; back = λ v names p is. some_none v (sym (told v (code_of _ _ _ _ _ _ p is ∙ ap (λ n. c.args.place / n) (sym c.chains_per_order.ensures.value)))) })
 
 pub returns : goal.returns
 returns g c =
     let n = c.args.setting.now.size in
     let t = c.args.setting.now.tolerance in
     let place = c.args.place in
-    let names = take c.in-ok-names.names.count c.in-ok-names.names.list in
-    let chain = c.in-ok-names.ensures in
-    let code = c.in-ok-order.ensures.has ∙ ap (λ z. place / z) c.chains-per-order.ensures.value in
+    let names = take c.in_ok-names.names.count c.in_ok-names.names.list in
+    let chain = c.in_ok-names.ensures in
+    let code = c.in_ok-order.ensures.has ∙ ap (λ z. place / z) c.chains_per_order.ensures.value in
     let there = ap (λ z. place_of n t z names) code ∙ chain.1 in
     record {
       chain = (chain.0, there);

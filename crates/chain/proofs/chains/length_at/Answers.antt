@@ -8,10 +8,10 @@ use Rattle.chain.proofs.chains.length_at.Goals.{In-loop-among}
 low : (c : In-loop-among) → c.args.index < shorter (c.size-free.result - 1) (c.args.setting.now.tolerance + 1)
 low c = subst (λ n. c.args.index < shorter (n - 1) (c.args.setting.now.tolerance + 1)) (sym c.size-free.ensures.value) c.requires
 
-pub overflow-mul-among : goal.overflow-mul-among
-overflow-mul-among c =
+pub overflow_mul-among : goal.overflow_mul-among
+overflow_mul-among c =
     let most = c.size-free.ensures.bounds.1 in
-    let m = more_ways_low _ _ _ _ _ _ c.loop-among.invariant (low (goal.at.overflow-mul-among c).In-loop-among) c.loop-among-test.true (omega arith) in
+    let m = more_ways_low _ _ _ _ _ _ c.loop-among.invariant (low (goal.at.overflow_mul-among c).In-loop-among) c.loop-among-test.true (omega arith) in
     omega arith
 
 pub loop-among-smaller : goal.loop-among-smaller

@@ -11,29 +11,29 @@ loop-i-init c =
     let low = c.requires.0 in
     spelling_none _ _ _ _ _ _ (omega arith) c.size-size.ensures.bounds.1 (c.requires.1.1.0 ∙ sym (ap (λ n. ways (n - 1) c.args.among.others) is)) c.requires.1.1.1 refl refl
 
-pub nonzero-div-ways : goal.nonzero-div-ways
-nonzero-div-ways c = free_some _ _ _ _ _ _ _ _ _ _ c.loop-i.invariant c.loop-i-test.true
+pub nonzero_div-ways : goal.nonzero_div-ways
+nonzero_div-ways c = free_some _ _ _ _ _ _ _ _ _ _ c.loop-i.invariant c.loop-i-test.true
 
-pub nonzero-div-rank : goal.nonzero-div-rank
-nonzero-div-rank c =
+pub nonzero_div-rank : goal.nonzero_div-rank
+nonzero_div-rank c =
     let d = divided _ _ _ _ _ _ _ _ _ _ c.loop-i.invariant c.loop-i-test.true in
     let w = ways_some _ _ _ _ _ _ _ _ _ _ c.loop-i.invariant c.loop-i-test.true in
     omega arith
 
-pub nth-new-name-requires : goal.nth-new-name-requires
-nth-new-name-requires c =
+pub nth_new-name-requires : goal.nth_new-name-requires
+nth_new-name-requires c =
     let d = divided _ _ _ _ _ _ _ _ _ _ c.loop-i.invariant c.loop-i-test.true in
     let l = digit_low _ _ _ _ _ _ _ _ _ _ c.loop-i.invariant c.loop-i-test.true in
     (c.size-size.ensures.bounds.1, subst (λ w. c.loop-i.rank / w < tally (λ q. not (in_mask c.loop-i.seen q)) c.size-size.result) (sym d) l)
 
-pub nonzero-rem-rank : goal.nonzero-rem-rank
-nonzero-rem-rank c =
+pub nonzero_rem-rank : goal.nonzero_rem-rank
+nonzero_rem-rank c =
     let d = divided _ _ _ _ _ _ _ _ _ _ c.loop-i.invariant c.loop-i-test.true in
     let w = ways_some _ _ _ _ _ _ _ _ _ _ c.loop-i.invariant c.loop-i-test.true in
     omega arith
 
-pub overflow-sub-free-in-loop-i : goal.overflow-sub-free-in-loop-i
-overflow-sub-free-in-loop-i c = let f = free_some _ _ _ _ _ _ _ _ _ _ c.loop-i.invariant c.loop-i-test.true in omega arith
+pub overflow_sub-free-in-loop-i : goal.overflow_sub-free-in-loop-i
+overflow_sub-free-in-loop-i c = let f = free_some _ _ _ _ _ _ _ _ _ _ c.loop-i.invariant c.loop-i-test.true in omega arith
 
 pub loop-i-preserved : goal.loop-i-preserved
 loop-i-preserved c =
@@ -42,7 +42,7 @@ loop-i-preserved c =
     let below = c.args.setting.now.below in
     let most = c.args.setting.now.most in
     let d = divided _ _ _ _ _ _ _ _ _ _ c.loop-i.invariant on in
-    let new = c.nth-new-name.ensures in
+    let new = c.nth_new-name.ensures in
     spelling_more _ _ _ _ _ _ _ _ _ _ c.loop-i.invariant on _ new.0 new.1 (new.2 ∙ ap (λ w. c.loop-i.rank / w) d) (omega arith) c.size-size.ensures.bounds.1
 
 pub returns : goal.returns

@@ -11,7 +11,7 @@ use Rattle.chain.proofs.names.check_names.Goals.{At-loop-i}
 
 -- there are 1 to t + 1 names
 some : (c : At-loop-i) → 1 ≤ length c.args.names.now
-some c = let none = eqb-false (length c.args.names.now) 0 (sym c.if-is-empty.ensures) in omega arith
+some c = let none = eqb-false (length c.args.names.now) 0 (sym c.if-is_empty.ensures) in omega arith
 
 few : (c : At-loop-i) → length c.args.names.now ≤ c.args.setting.now.tolerance + 1
 few c = let most = c.if-names-tolerance.false in let t = c.tolerance.ensures.value in omega arith
@@ -29,7 +29,7 @@ returns-in-Some c =
 pub loop-i-preserved : goal.loop-i-preserved
 loop-i-preserved c =
     let on = c.loop-i-test.true in
-    one_more _ _ _ _ _ c.loop-i.invariant on (fine_here _ _ _ _ _ c.loop-i.invariant on c.in-default.ensures) c.size-size.ensures.bounds.1
+    one_more _ _ _ _ _ c.loop-i.invariant on (fine_here _ _ _ _ _ c.loop-i.invariant on c.in_default.ensures) c.size-size.ensures.bounds.1
 
 pub returns : goal.returns
 returns c =

@@ -8,8 +8,8 @@ use Rattle.chain.proofs.Seen.{bit_off, bit_on}
 use Rattle.chain.proofs.places.new_below.Goals as goal
 use Rattle.chain.proofs.places.new_below.Goals.{then-seen-q-eq0, else-seen-q-eq0}
 
-pub overflow-add-found : goal.overflow-add-found
-overflow-add-found c =
+pub overflow_add-found : goal.overflow_add-found
+overflow_add-found c =
     let most = tally_most (λ q. not (in_mask c.args.seen q)) c.loop-q.q in
     let is = c.loop-q.invariant in
     let on = c.loop-q-test.true in

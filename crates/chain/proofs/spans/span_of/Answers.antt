@@ -5,35 +5,35 @@ use Rattle.chain.proofs.Bounds.{shorter_low}
 use Rattle.chain.proofs.Numbering.{code_bound, spans_at}
 use Rattle.chain.proofs.spans.span_of.Given.{Over}
 use Rattle.chain.proofs.spans.span_of.Goals as goal
-use Rattle.chain.proofs.spans.span_of.Goals.{After-chains-per-order}
+use Rattle.chain.proofs.spans.span_of.Goals.{After-chains_per_order}
 
 -- the first place of the code
-first_is : (g : Over) (c : After-chains-per-order g) → c.code.result * c.chains-per-order.result ≡ g.O.Order.coded c.args.order.now * per_order c.args.setting.now.size c.args.setting.now.tolerance
-first_is g c = λ k. c.code.ensures k * c.chains-per-order.ensures.value k
+first_is : (g : Over) (c : After-chains_per_order g) → c.code.result * c.chains_per_order.result ≡ g.O.Order.coded c.args.order.now * per_order c.args.setting.now.size c.args.setting.now.tolerance
+first_is g c = λ k. c.code.ensures k * c.chains_per_order.ensures.value k
 
-first_low : (g : Over) (c : After-chains-per-order g) → c.code.result * c.chains-per-order.result ≤ 1736081792
+first_low : (g : Over) (c : After-chains_per_order g) → c.code.result * c.chains_per_order.result ≤ 1736081792
 first_low g c =
     let e = first_is g c in
     let b = code_bound c.args.setting.now.size c.args.setting.now.tolerance _ _ (g.met.O.Order.below c.args.order.now) g.met.O.Order.few c.args.setting.now.most in
     omega arith
 
-pub overflow-mul-first : goal.overflow-mul-first
-overflow-mul-first g c = let l = first_low g c in omega arith
+pub overflow_mul-first : goal.overflow_mul-first
+overflow_mul-first g c = let l = first_low g c in omega arith
 
-pub overflow-add-result : goal.overflow-add-result
-overflow-add-result g c =
-    let l = first_low g (goal.at.overflow-add-result g c).After-chains-per-order in
+pub overflow_add-result : goal.overflow_add-result
+overflow_add-result g c =
+    let l = first_low g (goal.at.overflow_add-result g c).After-chains_per_order in
     let few = c.size-others.ensures.bounds.1 in
     let b = shorter_low (c.size-others.result - 1) (c.args.count - 1) (omega arith) in
-    let e = c.count-shorter.ensures in
+    let e = c.count_shorter.ensures in
     omega arith
 
-pub overflow-add-result-2 : goal.overflow-add-result-2
-overflow-add-result-2 g c =
-    let l = first_low g (goal.at.overflow-add-result-2 g c).After-chains-per-order in
+pub overflow_add-result-2 : goal.overflow_add-result-2
+overflow_add-result-2 g c =
+    let l = first_low g (goal.at.overflow_add-result-2 g c).After-chains_per_order in
     let few = c.size-others.ensures.bounds.1 in
     let b = shorter_low (c.size-others.result - 1) c.args.count (omega arith) in
-    let e = c.count-shorter-2.ensures in
+    let e = c.count_shorter-2.ensures in
     omega arith
 
 pub returns : goal.returns
@@ -41,12 +41,12 @@ returns g c =
     let n = c.args.setting.now.size in
     let t = c.args.setting.now.tolerance in
     let code = g.O.Order.coded c.args.order.now in
-    let first = first_is g (goal.at.returns g c).After-chains-per-order in
+    let first = first_is g (goal.at.returns g c).After-chains_per_order in
     let size = c.size-others.ensures.value in
-    let low = c.count-shorter.ensures ∙ ap (λ z. shorter (z - 1) (c.args.count - 1)) size in
-    let high = c.count-shorter-2.ensures ∙ ap (λ z. shorter (z - 1) c.args.count) size in
-    let start : c.code.result * c.chains-per-order.result + c.count-shorter.result ≡ code * per_order n t + shorter (n - 1) (c.args.count - 1) = λ k. first k + low k in
-    let end : c.code.result * c.chains-per-order.result + c.count-shorter-2.result ≡ code * per_order n t + shorter (n - 1) c.args.count = λ k. first k + high k in
+    let low = c.count_shorter.ensures ∙ ap (λ z. shorter (z - 1) (c.args.count - 1)) size in
+    let high = c.count_shorter-2.ensures ∙ ap (λ z. shorter (z - 1) c.args.count) size in
+    let start : c.code.result * c.chains_per_order.result + c.count_shorter.result ≡ code * per_order n t + shorter (n - 1) (c.args.count - 1) = λ k. first k + low k in
+    let end : c.code.result * c.chains_per_order.result + c.count_shorter-2.result ≡ code * per_order n t + shorter (n - 1) c.args.count = λ k. first k + high k in
     let some = c.if-count-lt1.false in
     let few = c.if-tolerance-count.false in
     let tolerance = c.tolerance.ensures.value in

@@ -2,16 +2,16 @@ use Rattle.std.proofs.Common.{◌≡◌, ◌+◌, ◌≤◌, drop, sym, ◌∙�
 use Rattle.script.specs.Brackets.{closes}
 use Rattle.script.proofs.Scans.{none_opens, other_opens, closes_here, closes_on, closes_none, deeper}
 use Rattle.script.proofs.brackets.is_form.Goals as goal
-use Rattle.script.proofs.brackets.is_form.Goals.{then-is-empty-via-then-is-empty, then-is-empty-via-else-is-empty+then-text-ne40}
+use Rattle.script.proofs.brackets.is_form.Goals.{then-is_empty-via-then-is_empty, then-is_empty-via-else-is_empty+then-text-ne40}
 
 pub returns-then-depth-eq0 : goal.returns-then-depth-eq0
 returns-then-depth-eq0 c =
     closes_here _ _ _ c.loop-i-test.true (search rules) c.loop-i.invariant.0
-    (sym c.depth-after-depth.ensures ∙ c.if-depth-eq0.true)
+    (sym c.depth_after-depth.ensures ∙ c.if-depth-eq0.true)
 
 pub loop-i-preserved : goal.loop-i-preserved
 loop-i-preserved c =
-    let e = sym c.depth-after-depth.ensures in (
+    let e = sym c.depth_after-depth.ensures in (
       subst (λ n. closes n (drop (c.loop-i.i + 1) c.args.text.now) ≡ closes 0 c.args.text.now) e
           (closes_on _ _ _ c.loop-i-test.true c.loop-i.invariant.0 (λ z. c.if-depth-eq0.false (sym e ∙ z))),
       subst (λ n. n ≤ c.loop-i.i + 1) e (deeper _ _ _ c.loop-i-test.true c.loop-i.invariant.1),
@@ -20,9 +20,9 @@ loop-i-preserved c =
 pub returns : goal.returns
 returns c = closes_none _ _ _ c.loop-i-test.false c.loop-i.invariant.0
 
-pub returns-then-is-empty : goal.returns-then-is-empty
-returns-then-is-empty c =
-    elim c.then-is-empty.branch [
-      | then-is-empty-via-then-is-empty w ↦ none_opens c.args.text.now (sym w.if-is-empty.ensures)
-      | then-is-empty-via-else-is-empty+then-text-ne40 w ↦ other_opens c.args.text.now w.if-text-ne40.true
+pub returns-then-is_empty : goal.returns-then-is_empty
+returns-then-is_empty c =
+    elim c.then-is_empty.branch [
+      | then-is_empty-via-then-is_empty w ↦ none_opens c.args.text.now (sym w.if-is_empty.ensures)
+      | then-is_empty-via-else-is_empty+then-text-ne40 w ↦ other_opens c.args.text.now w.if-text-ne40.true
     ]

@@ -13,6 +13,6 @@ pub returns-in-Word : goal.returns-in-Word
 returns-in-Word c =
     no_number _ _ _ (first_rest c.args.rest.now 0 (search rules)) (other_sort _ _ _ _ c.in-Some.ensures c.in-Word.is)
 
-pub returns-in-default-read-item : goal.returns-in-default-read-item
-returns-in-default-read-item c =
-    no_number _ _ _ (first_rest c.args.rest.now 0 (search rules)) (empty_no_number _ c.in-default-read-item.ensures)
+pub returns-in_default-read_item : goal.returns-in_default-read_item
+returns-in_default-read_item c =
+    no_number _ _ _ (first_rest c.args.rest.now 0 (search rules)) (empty_no_number _ c.in_default-read_item.ensures)

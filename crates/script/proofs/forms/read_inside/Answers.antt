@@ -9,10 +9,10 @@ use Rattle.script.proofs.forms.read_inside.Goals.{In-Word}
 first_word : (c : In-Word) → Reads c.args.text.now 2 (Word c.in-Word.word) c.in-Some.rest.now
 first_word c = subst (λ i. Reads c.args.text.now 2 i c.in-Some.rest.now) c.in-Word.is c.in-Some.ensures
 
-pub read-by-word-requires : goal.read-by-word-requires
-read-by-word-requires c = omega (arith, first_long (first_word c))
+pub read_by_word-requires : goal.read_by_word-requires
+read_by_word-requires c = omega (arith, first_long (first_word c))
 
 pub returns-in-Word : goal.returns-in-Word
 returns-in-Word c =
     let r = first_word (goal.at.returns-in-Word c).In-Word in
-    by_word _ _ _ c.read-by-word.ensures ∙ sym (λ k. word_of (sym (first_long r) k) (first_inside r k))
+    by_word _ _ _ c.read_by_word.ensures ∙ sym (λ k. word_of (sym (first_long r) k) (first_inside r k))

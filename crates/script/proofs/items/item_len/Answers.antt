@@ -14,7 +14,7 @@ returns-then-b-eq32 c =
 
 pub loop-i-preserved : goal.loop-i-preserved
 loop-i-preserved c =
-    let e = sym c.depth-after-depth.ensures in
+    let e = sym c.depth_after-depth.ensures in
     let goes_on : (eqb c.loop-i.depth 0 && eqb (get_or c.args.text.now c.loop-i.i 0) 32) ≡ false =
     elim c.else-depth-eq0.branch [
       | else-depth-eq0-via-then-depth-eq0+else-b-eq32 w ↦ and_right _ _ (ne_eqb _ _ w.if-b-eq32.false)

@@ -5,7 +5,7 @@ use Rattle.script.proofs.numerals.value_of.Goals.{After-from}
 
 -- what a turn makes of the sum
 summed : (c : After-from) → c.loop-b.sum * 10 + c.from.result ≡ c.loop-b.sum * 10 + (get_or c.args.digits.now c.loop-b.b-index 0 - 48)
-summed c = ap (λ n. c.loop-b.sum * 10 + n) (c.from.ensures ∙ c.saturating-sub.ensures)
+summed c = ap (λ n. c.loop-b.sum * 10 + n) (c.from.ensures ∙ c.saturating_sub.ensures)
 
 pub returns-then-sum-gt-LARGEST : goal.returns-then-sum-gt-LARGEST
 returns-then-sum-gt-LARGEST c =
@@ -20,4 +20,4 @@ loop-b-preserved c = (
 
 pub returns : goal.returns
 returns c =
-    valued_all _ _ _ 0 c.loop-b.invariant.0 c.loop-b-test.false c.loop-b.invariant.1 (sym c.if-not-is-plain.ensures)
+    valued_all _ _ _ 0 c.loop-b.invariant.0 c.loop-b-test.false c.loop-b.invariant.1 (sym c.if-not-is_plain.ensures)

@@ -3,8 +3,8 @@ use Rattle.setting.specs.declared.refusals.Refusal.TheVariants.{SoundCount}
 use Rattle.setting.proofs.Table.{told}
 use Rattle.setting.proofs.quotes.quote.Goals as goal
 
-pub returns-in-err-setting : goal.returns-in-err-setting
-returns-in-err-setting c = record { value = search rules; breaks = told _ _ _ _ (search rules); laws = search rules }
+pub returns-in_err-setting : goal.returns-in_err-setting
+returns-in_err-setting c = record { value = search rules; breaks = told _ _ _ _ (search rules); laws = search rules }
 
 pub returns-then-sound-size : goal.returns-then-sound-size
 returns-then-sound-size c =

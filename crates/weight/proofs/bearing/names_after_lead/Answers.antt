@@ -6,8 +6,8 @@ use Rattle.weight.proofs.AfterLead.{nothing_after, take_clipped}
 use Rattle.weight.proofs.NameSets.{empty_mask}
 use Rattle.weight.proofs.bearing.names_after_lead.Goals as goal
 
-pub mask-of-requires : goal.mask-of-requires
-mask-of-requires c =
+pub mask_of-requires : goal.mask_of-requires
+mask_of-requires c =
     let names = c.args.names.now in
     below-take 12 c.min.result (take (length names - 1) (drop 1 names)) (below-take 12 (length names - 1) (drop 1 names) (below-drop 12 1 names c.requires))
 
@@ -21,4 +21,4 @@ returns-in-len1-up c q =
     let names = c.args.names.now in
     let rest = take_rest names 1 in
     let clipped = c.min.ensures ∙ ap (λ l. min c.args.count (length l)) rest in
-    c.mask-of.ensures q ∙ ap (λ l. has q (take c.min.result l)) rest ∙ ap (has q) (take_clipped c.args.count c.min.result (drop 1 names) clipped)
+    c.mask_of.ensures q ∙ ap (λ l. has q (take c.min.result l)) rest ∙ ap (has q) (take_clipped c.args.count c.min.result (drop 1 names) clipped)

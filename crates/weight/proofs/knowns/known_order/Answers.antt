@@ -4,7 +4,7 @@ use Rattle.weight.specs.declared.knowns.Known.TheVariants.{Nothing}
 use Rattle.weight.specs.Cells.{holds}
 use Rattle.weight.proofs.Knowing.{KnownBelow, past_codes, no_chains, some_held, none_held, nothing_new, first_known, two_known, all_known}
 use Rattle.weight.proofs.knowns.known_order.Goals as goal
-use Rattle.weight.proofs.knowns.known_order.Goals.{then-any-taken+in-Nothing, else-any-taken}
+use Rattle.weight.proofs.knowns.known_order.Goals.{then-any_taken+in-Nothing, else-any_taken}
 
 pub returns-then-lead-size : goal.returns-then-lead-size
 returns-then-lead-size c = let size = c.size.ensures.value in let past = c.if-lead-size.true in no_chains _ _ _ _ (omega arith)
@@ -12,8 +12,8 @@ returns-then-lead-size c = let size = c.size.ensures.value in let past = c.if-le
 pub loop-code-init : goal.loop-code-init
 loop-code-init c m names low = absurd (omega arith)
 
-pub returns-in-default : goal.returns-in-default
-returns-in-default c =
+pub returns-in_default : goal.returns-in_default
+returns-in_default c =
     let n = c.args.setting.now.size in
     let t = c.args.setting.now.tolerance in
     let lead = c.args.lead in
@@ -22,9 +22,9 @@ returns-in-default c =
     let size = c.size.ensures.value in
     let in_ring = c.if-lead-size.false in
     let low = c.loop-code-test.true in
-    let taken = c.any-taken.ensures.some c.if-any-taken.true in
-    let chain = some_held n t lead cells code c.part-of.result.now (omega arith) c.part-of.ensures.few c.part-of.ensures.same (omega arith) taken.0 taken.1 in
-    two_known (holds n t lead cells) code c.loop-code.known c.in-default.not-Nothing chain.0 chain.1 c.loop-code.invariant
+    let taken = c.any_taken.ensures.some c.if-any_taken.true in
+    let chain = some_held n t lead cells code c.part_of.result.now (omega arith) c.part_of.ensures.few c.part_of.ensures.same (omega arith) taken.0 taken.1 in
+    two_known (holds n t lead cells) code c.loop-code.known c.in_default.not-Nothing chain.0 chain.1 c.loop-code.invariant
 
 pub loop-code-preserved : goal.loop-code-preserved
 loop-code-preserved c =
@@ -33,20 +33,20 @@ loop-code-preserved c =
     let lead = c.args.lead in
     let cells = c.args.cells.now in
     let code = c.loop-code.code in
-    let part = c.part-of.result.now in
+    let part = c.part_of.result.now in
     let size = c.size.ensures.value in
     let in_ring = c.if-lead-size.false in
-    let few = c.part-of.ensures.few in
-    let same = c.part-of.ensures.same in
+    let few = c.part_of.ensures.few in
+    let same = c.part_of.ensures.same in
     let low : code < 16 = let on = c.loop-code-test.true in omega arith in
     let next = λ (known : Known). KnownBelow (holds n t lead cells) (code + 1) known in
-    elim c.if-any-taken.branch [
-      | then-any-taken+in-Nothing w ↦
-          let taken = c.any-taken.ensures.some w.if-any-taken.true in
+    elim c.if-any_taken.branch [
+      | then-any_taken+in-Nothing w ↦
+          let taken = c.any_taken.ensures.some w.if-any_taken.true in
           let chain = some_held n t lead cells code part low few same (omega arith) taken.0 taken.1 in
           let before = subst (λ (known : Known). KnownBelow (holds n t lead cells) code known) w.in-Nothing.is c.loop-code.invariant in
           subst next (sym w.known-is) (first_known (holds n t lead cells) code chain.0 chain.1 before)
-      | else-any-taken w ↦ subst next (sym w.known-is) (nothing_new (holds n t lead cells) code c.loop-code.known (none_held n t lead cells code part low few same (c.any-taken.ensures.none w.if-any-taken.false)) c.loop-code.invariant)
+      | else-any_taken w ↦ subst next (sym w.known-is) (nothing_new (holds n t lead cells) code c.loop-code.known (none_held n t lead cells code part low few same (c.any_taken.ensures.none w.if-any_taken.false)) c.loop-code.invariant)
     ]
 
 pub returns : goal.returns

@@ -8,11 +8,11 @@ use Rattle.weight.proofs.masks.mask_of.Goals as goal
 pub loop-name-init : goal.loop-name-init
 loop-name-init c = (empty_mask, omega arith)
 
-pub overflow-cast-mask : goal.overflow-cast-mask
-overflow-cast-mask c = let low = below_at 12 c.args.names.now c.loop-name.name-index c.requires c.loop-name-test.true in record { fits = omega arith }
+pub overflow_cast-mask : goal.overflow_cast-mask
+overflow_cast-mask c = let low = below_at 12 c.args.names.now c.loop-name.name-index c.requires c.loop-name-test.true in record { fits = omega arith }
 
-pub overflow-shl-mask : goal.overflow-shl-mask
-overflow-shl-mask c = let low = below_at 12 c.args.names.now c.loop-name.name-index c.requires c.loop-name-test.true in omega arith
+pub overflow_shl-mask : goal.overflow_shl-mask
+overflow_shl-mask c = let low = below_at 12 c.args.names.now c.loop-name.name-index c.requires c.loop-name-test.true in omega arith
 
 pub loop-name-preserved : goal.loop-name-preserved
 loop-name-preserved c =

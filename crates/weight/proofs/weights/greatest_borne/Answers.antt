@@ -6,10 +6,10 @@ use Rattle.weight.specs.Cells.{taken_at}
 use Rattle.weight.proofs.HeldChains.{held_proper, held_from, within_long}
 use Rattle.weight.proofs.Searching.{start, bears_two, seconds_low, none_first, none_more, none_skip, one_less}
 use Rattle.weight.proofs.weights.greatest_borne.Goals as goal
-use Rattle.weight.proofs.weights.greatest_borne.Goals.{else-part-at-via-then-part-at+else-bears-at, else-part-at-via-else-part-at}
+use Rattle.weight.proofs.weights.greatest_borne.Goals.{else-part-at-via-then-part-at+else-bears_at, else-part-at-via-else-part-at}
 
-pub overflow-add-weight : goal.overflow-add-weight
-overflow-add-weight c = let few = ones-le 16 c.args.seconds c.ranges.seconds.fits in record { fits = omega arith }
+pub overflow_add-weight : goal.overflow_add-weight
+overflow_add-weight c = let few = ones-le 16 c.args.seconds c.ranges.seconds.fits in record { fits = omega arith }
 
 pub search-init : goal.search-init
 search-init c = (start _ _ _ _ c.args.seconds c.requires.1.0 c.ranges.seconds.fits, omega arith)
@@ -17,15 +17,15 @@ search-init c = (start _ _ _ _ c.args.seconds c.requires.1.0 c.ranges.seconds.fi
 pub loop-at-init : goal.loop-at-init
 loop-at-init c = none_first _ _ _ _ _ _
 
-pub overflow-cast-at : goal.overflow-cast-at
-overflow-cast-at c =
+pub overflow_cast-at : goal.overflow_cast-at
+overflow_cast-at c =
     let few = c.requires.0 in
     let inside = c.loop-at-test.true in
     let bound = per_order_bound c.args.setting.now.size c.args.setting.now.tolerance c.args.setting.now.most in
     record { fits = omega arith }
 
-pub bears-at-requires : goal.bears-at-requires
-bears-at-requires c =
+pub bears_at-requires : goal.bears_at-requires
+bears_at-requires c =
     let few = c.requires.0 in
     let inside = c.loop-at-test.true in
     (seconds_low _ _ _ _ c.args.seconds c.requires.1.0, omega arith)
@@ -38,7 +38,7 @@ loop-at-preserved c =
     let part = c.args.part.now in
     let S = in_mask c.args.seconds in
     elim c.else-part-at.branch [
-      | else-part-at-via-then-part-at+else-bears-at w ↦ none_more n t lead part S c.search.weight c.loop-at.at (λ names held is bears. w.bears-at.ensures.none w.if-bears-at.false names (held_proper n t lead part names held) is bears) c.loop-at.invariant
+      | else-part-at-via-then-part-at+else-bears_at w ↦ none_more n t lead part S c.search.weight c.loop-at.at (λ names held is bears. w.bears_at.ensures.none w.if-bears_at.false names (held_proper n t lead part names held) is bears) c.loop-at.invariant
       | else-part-at-via-else-part-at w ↦ none_skip n t lead part S c.search.weight c.loop-at.at w.if-part-at.false c.loop-at.invariant
     ]
 
@@ -51,13 +51,13 @@ returns-after-search c =
     let two : c.search.weight ≡ 2 = omega arith in
     record { reached = rw two (bears_two _ _ _ _ c.args.seconds c.requires.1.0 c.ranges.seconds.fits c.requires.1.1); most = c.search.invariant.0 }
 
-pub returns-then-bears-at : goal.returns-then-bears-at
-returns-then-bears-at c =
+pub returns-then-bears_at : goal.returns-then-bears_at
+returns-then-bears_at c =
     let n = c.args.setting.now.size in
     let t = c.args.setting.now.tolerance in
     let lead = c.args.lead in
     let part = c.args.part.now in
-    let found = c.bears-at.ensures.some c.if-bears-at.true in
+    let found = c.bears_at.ensures.some c.if-bears_at.true in
     let past = c.loop-at.auto.at in
     let place = found.2 in
     record {

@@ -4,23 +4,23 @@ use Rattle.weight.proofs.Smaller.{smaller}
 use Rattle.weight.proofs.Weighing.{weighs_nothing, weighs_held, no_order}
 use Rattle.weight.proofs.weights.weight.Goals as goal
 
-pub returns-then-code-ge-MOST-CODES : goal.returns-then-code-ge-MOST-CODES
-returns-then-code-ge-MOST-CODES c = record { greatest = no_order _ _ _ _ _ c.if-code-ge-MOST-CODES.true; smaller = smaller _ _; worked = worked }
+pub returns-then-code-ge-MOST_CODES : goal.returns-then-code-ge-MOST_CODES
+returns-then-code-ge-MOST_CODES c = record { greatest = no_order _ _ _ _ _ c.if-code-ge-MOST_CODES.true; smaller = smaller _ _; worked = worked }
 
 pub returns-then-seconds-eq0 : goal.returns-then-seconds-eq0
 returns-then-seconds-eq0 c =
-    let low = c.if-code-ge-MOST-CODES.false in
+    let low = c.if-code-ge-MOST_CODES.false in
     record {
-      greatest = weighs_nothing _ _ _ _ _ c.part-of-part.result.now (omega arith) c.part-of-part.ensures.same c.second-names-seconds.result c.second-names-seconds.ensures c.if-seconds-eq0.true;
+      greatest = weighs_nothing _ _ _ _ _ c.part_of-part.result.now (omega arith) c.part_of-part.ensures.same c.second_names-seconds.result c.second_names-seconds.ensures c.if-seconds-eq0.true;
       smaller = smaller _ _;
       worked = worked;
     }
 
 pub returns : goal.returns
 returns c =
-    let low = c.if-code-ge-MOST-CODES.false in
+    let low = c.if-code-ge-MOST_CODES.false in
     record {
-      greatest = weighs_held _ _ _ _ _ c.part-of-part.result.now (omega arith) c.part-of-part.ensures.same c.second-names-seconds.result c.second-names-seconds.ensures c.greatest-borne.result c.greatest-borne.ensures.reached c.greatest-borne.ensures.most;
+      greatest = weighs_held _ _ _ _ _ c.part_of-part.result.now (omega arith) c.part_of-part.ensures.same c.second_names-seconds.result c.second_names-seconds.ensures c.greatest_borne.result c.greatest_borne.ensures.reached c.greatest_borne.ensures.most;
       smaller = smaller _ _;
       worked = worked;
     }

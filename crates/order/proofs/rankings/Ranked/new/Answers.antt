@@ -1,5 +1,5 @@
 use Rattle.std.proofs.Common.{◌≡◌, ℕ, ◌+◌, ◌<◌, List, length, get_or, sym, refl, subst, arith}
-use Rattle.std.proofs.lemmas.Bool.{false≢true}
+use Rattle.std.proofs.lemmas.Bool.{eqb-true, eqb-false}
 use Rattle.order.proofs.Places.{Tabled, table_set, table_kept, table_full, table_short}
 use Rattle.order.proofs.rankings.Ranked.new.Goals as goal
 use Rattle.order.proofs.rankings.Ranked.new.Goals.{then-code-lt16+then-ranks-code-eq-UNLISTED, else-code-lt16, else-code-lt16-via-then-code-lt16+else-ranks-code-eq-UNLISTED, else-code-lt16-via-else-code-lt16}
@@ -21,9 +21,9 @@ loop-i-preserved c =
 pub returns-then-contains : goal.returns-then-contains
 returns-then-contains c =
     let found = c.if-contains.ensures.cases in
-    (refl, table_short c.args.list.now c.loop-i.ranks c.loop-i.i c.if-list-ne16.false (omega arith) c.loop-i.invariant found.0 (let long = c.loop-i.invariant.sixteen in let low = found.1 in omega arith) ((found.2 0).0 refl))
+    (refl, table_short c.args.list.now c.loop-i.ranks c.loop-i.i c.if-list-ne16.false (omega arith) c.loop-i.invariant found.0 (let long = c.loop-i.invariant.sixteen in let low = found.1 in omega arith) (eqb-true _ 16 (found.2 0)))
 
 pub returns : goal.returns
 returns c =
     let none = c.if-contains.ensures.cases in
-    table_full c.args.list.now c.loop-i.ranks c.loop-i.i c.if-list-ne16.false (omega arith) c.loop-i.invariant (λ k low is. false≢true ((none k 0 (omega arith) (let long = c.loop-i.invariant.sixteen in omega arith)).1 is))
+    table_full c.args.list.now c.loop-i.ranks c.loop-i.i c.if-list-ne16.false (omega arith) c.loop-i.invariant (λ k low is. eqb-false _ 16 (none k 0 (omega arith) (let long = c.loop-i.invariant.sixteen in omega arith)) is)

@@ -6,21 +6,22 @@ use Rattle.scheme.proofs.books.Book.write_next.Goals as goal
 pub bounds-self-self : goal.bounds-self-self
 bounds-self-self c = let room = line_left c.args.self.now _ c.requires.0 c.requires.1 in let enough = c.args.self.now.enough in omega arith
 
-pub overflow-add-self : goal.overflow-add-self
-overflow-add-self c = let room = line_left c.args.self.now _ c.requires.0 c.requires.1 in let few = c.args.self.now.few in search rules
+pub overflow_add-self : goal.overflow_add-self
+overflow_add-self c = let room = line_left c.args.self.now _ c.requires.0 c.requires.1 in let few = c.args.self.now.few in search rules
 
-pub invariant-of-self : goal.invariant-of-self
-invariant-of-self c =
+pub invariant_of-self : goal.invariant_of-self
+invariant_of-self c =
     let b = c.args.self.now in
     let room = line_left c.args.self.now _ c.requires.0 c.requires.1 in
     let enough = b.enough in
-    let long = length-set b.lines.now b.used c.args.place in (
-      b.few,
-      (
-        omega arith,
-        (omega arith, (next_apart b _ c.requires.0 c.requires.1, (next_low b _ c.requires.0 c.requires.1, tt))),
-      ),
-    )
+    let long = length-set b.lines.now b.used c.args.place in
+    record {
+      few = b.few;
+      enough = omega arith;
+      within = omega arith;
+      apart = next_apart b _ c.requires.0 c.requires.1;
+      low = next_low b _ c.requires.0 c.requires.1;
+    }
 
 pub returns : goal.returns
 returns c = record { numbered = refl; used = refl; lines = refl; count = refl }

@@ -4,8 +4,8 @@ use Rattle.counting.proofs.Tallies.{tally_none}
 use Rattle.scheme.proofs.GridLaws.{no_bit}
 use Rattle.scheme.proofs.grids.Grid.new.Goals as goal
 
-pub invariant-of-result : goal.invariant-of-result
-invariant-of-result c = (search rules, (sym (tally_none _ c.args.count (λ p _. no_bit 256 p)), tt))
+pub invariant_of-result : goal.invariant_of-result
+invariant_of-result c = record { few = search rules; tallied = sym (tally_none _ c.args.count (λ p _. no_bit 256 p)) }
 
 pub returns : goal.returns
 returns c = (search rules, refl, λ p. cond-false _ _ _ (and_right _ _ (no_bit 256 p)))

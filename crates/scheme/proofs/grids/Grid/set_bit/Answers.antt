@@ -2,16 +2,19 @@ use Rattle.std.proofs.Common.{◌≡◌, suc, ◌+◌, ◌/◌, ◌<◌, length,
 use Rattle.scheme.proofs.GridLaws.{signed_most, word_set, tally_set}
 use Rattle.scheme.proofs.grids.Grid.set_bit.Goals as goal
 
-pub overflow-add-self : goal.overflow-add-self
-overflow-add-self c = let most = signed_most c.args.self.now in search rules
+pub overflow_add-self : goal.overflow_add-self
+overflow_add-self c = let most = signed_most c.args.self.now in search rules
 
-pub invariant-of-self : goal.invariant-of-self
-invariant-of-self c =
+pub invariant_of-self : goal.invariant_of-self
+invariant_of-self c =
     let g = c.args.self.now in
     let few = g.few in
     let word : c.args.place / 64 < length g.bits = search rules in
     let one : g.signed + 1 ≡ suc g.signed = omega arith in
-    (g.few, (one ∙ ap suc g.tallied ∙ sym (tally_set g.bits _ g.count c.args.place c.requires.0 c.requires.1 (λ q. word_set g.bits c.args.place q word)), tt))
+    record {
+      few = g.few;
+      tallied = one ∙ ap suc g.tallied ∙ sym (tally_set g.bits _ g.count c.args.place c.requires.0 c.requires.1 (λ q. word_set g.bits c.args.place q word));
+    }
 
 pub returns : goal.returns
 returns c =

@@ -9,9 +9,9 @@ loop-b-init c = moved_none c.args.self.now (string_bytes c.args.out.now)
 
 pub loop-b-preserved : goal.loop-b-preserved
 loop-b-preserved c =
-    subst (λ l. Moved c.args.self.now (string_bytes c.args.out.now) l c.take-byte.new.self (string_bytes c.take-byte.new.out))
+    subst (λ l. Moved c.args.self.now (string_bytes c.args.out.now) l c.take_byte.new.self (string_bytes c.take_byte.new.out))
     (sym (take_more c.args.piece.now c.loop-b.b-index 0 c.loop-b-test.true))
-    (moved_more _ _ _ _ _ _ _ _ c.loop-b.invariant c.in-ok-take-byte.ensures)
+    (moved_more _ _ _ _ _ _ _ _ c.loop-b.invariant c.in_ok-take_byte.ensures)
 
 pub returns : goal.returns
 returns c =

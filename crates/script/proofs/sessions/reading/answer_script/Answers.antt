@@ -4,5 +4,5 @@ use Rattle.script.proofs.sessions.reading.answer_script.Goals as goal
 
 pub returns : goal.returns
 returns c =
-    let written = c.in-ok-finish.ensures ∙ c.in-ok-feed.ensures.writes [] in
-    written ∙ (λ k. c.new_out.ensures.bytes k ++ due c.new-session.result (append-nil c.args.script.now k)) ∙ c.new-session.ensures.writes c.args.script.now
+    let written = c.in_ok-finish.ensures ∙ c.in_ok-feed.ensures.writes [] in
+    written ∙ (λ k. c.new-out.ensures.bytes k ++ due c.new-session.result (append-nil c.args.script.now k)) ∙ c.new-session.ensures.writes c.args.script.now

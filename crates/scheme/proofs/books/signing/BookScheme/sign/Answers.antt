@@ -11,8 +11,8 @@ returns-then-place-self c =
 pub returns : goal.returns
 returns c =
     let b = c.args.self.now in
-    let none : marks b c.args.place ≡ 0 = let is = c.line-of-mark.ensures in let low = c.if-mark-gt0.false in omega arith in
-    let next = c.write-next.ensures in
+    let none : marks b c.args.place ≡ 0 = let is = c.line_of-mark.ensures in let low = c.if-mark-gt0.false in omega arith in
+    let next = c.write_next.ensures in
     record {
       signs = signs_next b _ _ _ c.if-place-self.false none next;
       count = next.count;
