@@ -21,8 +21,8 @@ DEFINED = re.compile(r"^\s*(?:(?:pub|abbrev|unfoldable) )*(?:(?:data|record) (?=
 # a dash that joins the names of two functions
 JOINED = {"below-drop", "below-take", "distinct-take", "has-append", "has-take", "feeds-append"}
 # names that a proof gives to a value of its own
-LOCAL = """at-close at-m at-q but-lead but-own code-end follows-i follows-j follows-p in-it' in-mask in-ring is-n is-t
-low-hid low-names new-out no-f no-form none-k none-n not-here not-waits open-too same-form small-c small-t sound-lead
+LOCAL = """at-close at-m at-q but-lead but-own follows-i follows-j follows-p in-it' in-mask in-ring is-n is-t
+low-hid low-names no-f no-form none-k none-n not-here not-waits open-too same-form small-c small-t sound-lead
 sound-p sound-q to-new weighs-i weighs-j yes-f yes-more zero-here as-hidden""".split()
 # names that would fall together with a function of src/ or of the library
 OTHER = {

@@ -1,5 +1,5 @@
 -- How large the counts of chains become. Assumes nothing.
-use Rattle.std.proofs.Common.{◌≡◌, ℕ, zero, suc, ◌+◌, ◌-◌, ◌*◌, ◌<◌, ◌≤◌, sym, refl, ap, ◌∙◌, subst, mul_assoc, suc-mul, mul-le-mul_left, one-mul, mul-zero, zero-mul, mul-one, mul-add, arith}
+use Rattle.std.proofs.Common.{◌≡◌, ℕ, zero, suc, ◌+◌, ◌-◌, ◌*◌, ◌≤◌, sym, ap, ◌∙◌, subst, mul_assoc, suc-mul, mul-le-mul_left, one-mul, mul-zero, zero-mul, mul-one, mul-add, arith}
 use Rattle.chain.specs.Ranks.{ways, shorter}
 
 -- one name more, written last

@@ -1,8 +1,8 @@
 -- The places of proper chains have the order of the chains, and none is left out. Assumes nothing.
-use Rattle.std.proofs.Common.{◌≡◌, ℕ, zero, suc, ◌+◌, ◌-◌, ◌*◌, ◌/◌, ◌%◌, ◌^◌, ◌<◌, ◌≤◌, Bool, true, false, not, ◌&&◌, ◌||◌, eqb, ltb, List, [], ◌∷◌, length, get_or, take, drop, sym, refl, ap, ◌∙◌, subst, ⊎_elim, mul-le-mul_right, mod-lt, suc-mul, mul-le-mul, div-add-mod', arith}
+use Rattle.std.proofs.Common.{◌≡◌, ℕ, zero, suc, ◌+◌, ◌-◌, ◌*◌, ◌/◌, ◌%◌, ◌^◌, ◌<◌, ◌≤◌, ◌&&◌, ◌||◌, eqb, ltb, List, [], ◌∷◌, length, get_or, take, drop, sym, refl, ap, ◌∙◌, subst, ⊎_elim, mul-le-mul_right, mod-lt, suc-mul, mul-le-mul, div-add-mod', arith}
 use Rattle.std.proofs.lemmas.List.{take_all}
 use Rattle.std.proofs.lemmas.Bool.{cases_lt, and_left, or_left, or_from, eq-eqb, ne_eqb, lt-ltb}
-use Rattle.counting.specs.Lists.{has, tally}
+use Rattle.counting.specs.Lists.{tally}
 use Rattle.counting.proofs.Tallies.{tally_all}
 use Rattle.chain.specs.Chains.{Proper}
 use Rattle.chain.specs.Ranks.{ways, shorter, is_new, rank, spelled, sooner}

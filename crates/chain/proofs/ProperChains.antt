@@ -1,7 +1,7 @@
 -- Fronts of proper chains, proper chains with one name more, and the test for proper chains. Assumes nothing.
-use Rattle.std.proofs.Common.{◌≡◌, ℕ, suc, ◌+◌, ◌<◌, ◌≤◌, min, true, false, List, [], ◌∷◌, ◌++◌, length, get_or, take, sym, refl, ap, ◌∙◌, arith, length-append, length-take}
+use Rattle.std.proofs.Common.{◌≡◌, ℕ, suc, ◌<◌, ◌≤◌, true, false, List, [], ◌∷◌, ◌++◌, length, get_or, take, sym, ap, arith, length-append, length-take}
 use Rattle.std.proofs.lemmas.Bool.{true≢false, and_parts, and_from, eqb-true, eq-eqb, leb-true, le-leb}
-use Rattle.counting.specs.Lists.{has, below, distinct}
+use Rattle.counting.specs.Lists.{has}
 use Rattle.counting.proofs.Prefixes.{distinct-take, below-take}
 use Rattle.counting.proofs.Pushes.{distinct_push, below_push, below_at}
 use Rattle.chain.specs.Chains.{Proper, is_proper, Grows}

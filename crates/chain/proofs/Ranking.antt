@@ -1,5 +1,5 @@
 -- The rank of names as they are read, digit by digit. Assumes nothing.
-use Rattle.std.proofs.Common.{◌≡◌, ℕ, suc, ◌+◌, ◌-◌, ◌*◌, ◌%◌, ◌^◌, ◌<◌, ◌≤◌, Bool, true, false, not, ◌||◌, eqb, List, [], ◌∷◌, length, get_or, drop, sym, refl, ap, ◌∙◌, subst, mul_assoc, add-mul, zero-mul, mul-one, le-mul_of_pos_right, arith}
+use Rattle.std.proofs.Common.{◌≡◌, ℕ, ◌+◌, ◌-◌, ◌*◌, ◌%◌, ◌^◌, ◌<◌, ◌≤◌, true, not, ◌||◌, eqb, List, [], ◌∷◌, length, get_or, drop, sym, refl, ap, ◌∙◌, subst, mul_assoc, add-mul, zero-mul, mul-one, le-mul_of_pos_right, arith}
 use mathlib.Core.Bool.{or-false}
 use lib.Bits.{bit_or, or_lt}
 use Rattle.std.proofs.lemmas.Nat.{one_shl, pow_below}

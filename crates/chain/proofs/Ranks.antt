@@ -1,9 +1,9 @@
 -- The rank of a list of new names, and the names of a rank. Assumes nothing.
-use Rattle.std.proofs.Common.{◌≡◌, ℕ, zero, suc, ◌+◌, ◌-◌, ◌*◌, ◌/◌, ◌%◌, ◌<◌, ◌≤◌, Bool, true, false, cond, not, ◌&&◌, ◌||◌, eqb, ltb, List, [], ◌∷◌, length, sym, refl, ap, ◌∙◌, subst, ⊎_elim, mul-le-mul_right, mod-lt, suc-mul, mul-zero, div-add-mod', zero-mul, arith}
-use Rattle.std.proofs.lemmas.Bool.{cases_Bool, cases_lt, cond-true, cond-false, and_parts, and_from, and_left, and_right, and_cases, or_parts, or_left, or_right, or_from, or_cases, eqb-true, eqb-false, eq-eqb, ne_eqb, ltb-true, lt-ltb, not-true, not-false, not_from_true, not_from_false, both_ways}
+use Rattle.std.proofs.Common.{◌≡◌, ℕ, zero, suc, ◌+◌, ◌-◌, ◌*◌, ◌/◌, ◌%◌, ◌<◌, ◌≤◌, Bool, true, false, not, ◌&&◌, ◌||◌, eqb, ltb, List, [], ◌∷◌, length, sym, refl, ap, ◌∙◌, subst, ⊎_elim, mul-le-mul_right, mod-lt, suc-mul, mul-zero, div-add-mod', arith}
+use Rattle.std.proofs.lemmas.Bool.{cases_Bool, cases_lt, cond-true, cond-false, and_parts, and_from, and_left, and_cases, or_parts, or_left, or_right, or_from, or_cases, eqb-true, eqb-false, eq-eqb, ne_eqb, ltb-true, lt-ltb, not-true, not_from_true, not_from_false, both_ways}
 use Rattle.counting.specs.Lists.{has, distinct, below, tally}
 use Rattle.counting.proofs.Tallies.{tally_more}
-use Rattle.chain.specs.Ranks.{ways, shorter, is_new, nth, rank, spelled, sooner}
+use Rattle.chain.specs.Ranks.{ways, is_new, nth, rank, spelled, sooner}
 use Rattle.chain.proofs.FirstFaults.{Good}
 
 -- a test passes more numbers below a larger number, and one more past each that passes

@@ -1,5 +1,5 @@
 -- The names of a rank as they are written, digit by digit. Assumes nothing.
-use Rattle.std.proofs.Common.{◌≡◌, ℕ, zero, suc, ◌+◌, ◌-◌, ◌*◌, ◌/◌, ◌%◌, ◌^◌, ◌<◌, ◌≤◌, Bool, true, false, not, ◌||◌, eqb, List, [], ◌∷◌, ◌++◌, length, take, set, sym, refl, ap, ◌∙◌, subst, ⊎_elim, mul-le-mul_right, mod-lt, mul_comm, mul-zero, div-add-mod', zero-mul, arith, length-set}
+use Rattle.std.proofs.Common.{◌≡◌, ℕ, suc, ◌+◌, ◌-◌, ◌*◌, ◌/◌, ◌%◌, ◌^◌, ◌<◌, ◌≤◌, true, false, not, ◌||◌, eqb, List, [], ◌∷◌, ◌++◌, length, take, set, sym, ap, ◌∙◌, subst, ⊎_elim, mul-le-mul_right, mod-lt, mul_comm, mul-zero, div-add-mod', zero-mul, arith, length-set}
 use mathlib.Core.Bool.{or-false}
 use lib.Bits.{bit_or, or_lt}
 use Rattle.std.proofs.lemmas.Nat.{one_shl, pow_below}
@@ -10,8 +10,8 @@ use Rattle.counting.proofs.Tallies.{tally_alike}
 use Rattle.order.specs.Sets.{has as in_mask}
 use Rattle.order.specs.Masks.{has-bit_or, one_bit}
 use Rattle.chain.specs.Ranks.{ways, shorter, is_new, nth, spelled}
-use Rattle.chain.proofs.Bounds.{ways_last, shorter_low, ways_low}
-use Rattle.chain.proofs.Numbering.{new_names, shorter_grows}
+use Rattle.chain.proofs.Bounds.{ways_last, ways_low}
+use Rattle.chain.proofs.Numbering.{new_names}
 use Rattle.chain.proofs.Ranks.{tally_one, nth_is, fewer_new, digits_back}
 
 -- the chains with fewer names were left behind

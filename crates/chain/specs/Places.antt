@@ -7,7 +7,7 @@
 --   Places      places have the order of the chains, and no two chains share one; chains of one code and number of names
 --               have one range of places; and each number is the place of a proper chain of its code
 --   Spans       the places from start up to end are those of the chains of one code with so many names
-use Rattle.std.specs.Prelude.{◌≡◌, ℕ, suc, ◌+◌, ◌-◌, ◌*◌, ◌/◌, ◌<◌, ◌≤◌, Bool, ◌&&◌, ◌||◌, List, [], ◌∷◌, length, ◌==◌, nat_lt}
+use Rattle.std.specs.Prelude.{◌≡◌, ℕ, ◌+◌, ◌-◌, ◌*◌, ◌/◌, ◌<◌, ◌≤◌, Bool, ◌&&◌, ◌||◌, List, [], ◌∷◌, length, ◌==◌, nat_lt}
 use Rattle.chain.specs.Chains.{Proper}
 use Rattle.chain.specs.Ranks.{shorter, rank, sooner}
 

@@ -99,7 +99,8 @@ pub fn chain_at<O: Order>(setting: &Setting, lead: u32, place: u32) -> Option<(O
     ensures chain { IfSome result (λ c. Proper setting.now.size setting.now.tolerance lead (take c.1.count c.1.list) × (place_of setting.now.size setting.now.tolerance (O.Order.coded c.0) (take c.1.count c.1.list) ≡ place)) }
     ensures back { (v : O) (names : List ℕ) → Proper setting.now.size setting.now.tolerance lead names → place_of setting.now.size setting.now.tolerance (O.Order.coded v) names ≡ place → MatchOption result ⊥ (λ c. (c.0 ≡ v) × (take c.1.count c.1.list ≡ names)) }
 {
+    let chains = chains_per_order(setting);
     let names = names_at(setting, lead, place)?;
-    let order = O::from_code(place / chains_per_order(setting))?;
+    let order = O::from_code(place / chains)?;
     Some((order, names))
 }

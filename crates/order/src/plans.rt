@@ -36,13 +36,13 @@ impl Order for Plan {
 
     ghost coded = { λ p. p.number };
 
-    ghost some = { first_of (Prim.search rules, Prim.grind (arith, Self.row.coded.inj)) };
+    ghost some = { Prim.search rules };
 
-    ghost few = { first_of (Prim.search rules, Prim.grind (arith, Self.row.coded.inj)) };
+    ghost few = { Prim.search rules };
 
-    ghost below = { first_of (Prim.search rules, Prim.grind (arith, Self.row.coded.inj)) };
+    ghost below = { Prim.search rules };
 
-    ghost apart = { first_of (Prim.search rules, Prim.grind (arith, Self.row.coded.inj)) };
+    ghost apart = { Prim.grind (arith, Self.row.coded.inj) };
 
     fn code_count() -> u32 {
         16

@@ -1,11 +1,11 @@
 -- A close can always be made. Assumes nothing.
-use Rattle.std.proofs.Common.{◌≡◌, ℕ, suc, ◌+◌, ◌<◌, ◌≤◌, sym, refl, subst, ⊎_elim, arith}
+use Rattle.std.proofs.Common.{◌≡◌, ℕ, ◌+◌, ◌<◌, sym, refl, subst, ⊎_elim, arith}
 use Rattle.std.proofs.lemmas.Bool.{cases_lt}
 use Rattle.protocol.specs.Closable.{Reckoned, Closable}
 use Rattle.protocol.specs.declared.standings.Standing.{Standing}
 use Rattle.protocol.specs.declared.standings.Standing.TheVariants.{Leading, Waiting, Carry, Done, Quit}
 use Rattle.protocol.specs.Rings.{Ring}
-use Rattle.protocol.specs.Rounds.{Sole, Weighs, Closes, led, ends, done, quit, early, waits, quits, picks}
+use Rattle.protocol.specs.Rounds.{Weighs, Closes, led, ends, done, quit, early, waits, quits, picks}
 use Rattle.protocol.specs.States.{State}
 
 module _ (g : Ring) (s : State) (r p : ℕ) (known : Reckoned g s p) where

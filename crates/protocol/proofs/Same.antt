@@ -1,6 +1,6 @@
 -- Standings told apart, and what is the same of two states. Assumes nothing.
 --   kind   a number for each kind of standing: two standings of different kinds are not the same
-use Rattle.std.proofs.Common.{◌≡◌, ℕ, Bool, true, false, List, sym, refl, ap, ◌∙◌, subst, ⊎_elim}
+use Rattle.std.proofs.Common.{◌≡◌, ℕ, Bool, true, List, sym, ◌∙◌, subst, ⊎_elim}
 use mathlib.Core.Path.{fun_ext}
 use Rattle.std.proofs.lemmas.Bool.{cases_Bool}
 use Rattle.weight.specs.Weights.{Weight}

@@ -1,13 +1,13 @@
 -- What a grid's bits give. Assumes nothing.
-use Rattle.std.proofs.Common.{◌≡◌, ℕ, suc, ◌+◌, ◌*◌, ◌/◌, ◌%◌, ◌^◌, ◌<◌, ◌≤◌, Bool, true, false, cond, ◌&&◌, ◌||◌, eqb, ltb, List, length, get_or, set, replicate, sym, refl, ap, ◌∙◌, subst, ⊎_elim, arith, get_or-set_other, get_or-set_same}
-use native.Mathlib.Nat.{zero-div, zero-mod}
+use Rattle.std.proofs.Common.{◌≡◌, ℕ, suc, ◌+◌, ◌*◌, ◌/◌, ◌%◌, ◌^◌, ◌<◌, ◌≤◌, true, false, cond, ◌&&◌, ◌||◌, eqb, ltb, List, length, get_or, set, replicate, sym, refl, ap, ◌∙◌, subst, ⊎_elim, arith, get_or-set_other, get_or-set_same}
+use native.Mathlib.Nat.{zero-div}
 use lib.Bits.{bit_and, bit_or}
 use lib.ListN.{length-replicate}
 use Rattle.std.proofs.lemmas.Nat.{div-add-mod', one_shl, mod_below}
 use Rattle.std.proofs.lemmas.List.{get_or-replicate, get_or_past}
-use Rattle.std.proofs.lemmas.Bool.{cases_Bool, cases_eq, cases_lt, cond-true, cond-false, and_parts, and_from, and_left, and_right, or_left, eqb-true, eq-eqb, ne_eqb, lt-ltb, le-ltb, ltb-true, both_ways}
+use Rattle.std.proofs.lemmas.Bool.{cases_Bool, cases_eq, cases_lt, cond-true, cond-false, and_from, and_left, and_right, or_left, eq-eqb, ne_eqb, lt-ltb, le-ltb}
 use Rattle.counting.specs.Lists.{tally}
-use Rattle.counting.proofs.Tallies.{tally_alike, tally_more, tally_most, tally_none}
+use Rattle.counting.proofs.Tallies.{tally_alike, tally_more, tally_most}
 use Rattle.order.specs.Sets.{has}
 use Rattle.order.specs.Masks.{has-bit_or, bit_tested}
 use Rattle.scheme.specs.declared.grids.Grid.{Grid}

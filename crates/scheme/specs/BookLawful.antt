@@ -1,6 +1,6 @@
 -- A book's marks are lawful: its `impl` hands this proof to the trait. Assumes nothing.
-use Rattle.std.specs.Prelude.{◌≡◌, ℕ, suc, ◌+◌, ◌^◌, ◌<◌, ◌≤◌, Bool, true, false, cond, ◌||◌, List, [], ◌∷◌, length, take, ◌==◌, refl}
-use Rattle.std.proofs.Common.{subst, sym, ◌∙◌, ⊎_elim, arith, length-take-le}
+use Rattle.std.specs.Prelude.{◌≡◌, ℕ, suc, ◌+◌, ◌≤◌, false, List, [], ◌∷◌, length, take, ◌==◌, refl}
+use Rattle.std.proofs.Common.{◌∙◌, ⊎_elim, arith}
 use Rattle.std.proofs.lemmas.Bool.{cases_Bool, cond-true, cond-false, or_parts}
 use Rattle.counting.specs.Lists.{has}
 use Rattle.counting.proofs.Pushes.{not_has}

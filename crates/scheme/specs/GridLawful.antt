@@ -1,6 +1,6 @@
 -- A grid's marks are lawful: its `impl` hands this proof to the trait. Assumes nothing.
-use Rattle.std.specs.Prelude.{◌≡◌, ℕ, ◌+◌, ◌^◌, ◌<◌, ◌≤◌, true, false, cond, ◌&&◌, nat_lt, refl}
-use Rattle.std.proofs.Common.{sym, subst, ◌∙◌, ⊎_elim, arith}
+use Rattle.std.specs.Prelude.{◌≡◌, ℕ, ◌+◌, ◌^◌, ◌<◌, ◌&&◌, nat_lt}
+use Rattle.std.proofs.Common.{⊎_elim, arith}
 use Rattle.std.proofs.lemmas.Bool.{cases_Bool, cond-true, cond-false, and_left, and_parts, le-ltb, ltb-true}
 use Rattle.scheme.specs.declared.grids.Grid.{Grid}
 use Rattle.scheme.specs.Bits.{bit_at}

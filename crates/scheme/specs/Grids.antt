@@ -2,7 +2,7 @@
 --   grid_marks   the ledger of a grid: a place plus 1 where its bit is set
 --   Empty        no place is signed
 --   BitSet       the bit of a place is set now, and every other bit is as it was
-use Rattle.std.specs.Prelude.{◌≡◌, ℕ, ◌+◌, Bool, cond, ◌&&◌, ◌||◌, ◌==◌, nat_lt}
+use Rattle.std.specs.Prelude.{◌≡◌, ℕ, ◌+◌, cond, ◌&&◌, ◌||◌, ◌==◌, nat_lt}
 use Rattle.scheme.specs.declared.grids.Grid.{Grid}
 use Rattle.scheme.specs.Bits.{bit_at}
 

@@ -1,16 +1,14 @@
 -- The pieces of a text, one after the other as a reader takes them. Assumes nothing.
-use Rattle.std.proofs.Common.{◌≡◌, ℕ, suc, ◌+◌, ◌-◌, ◌<◌, ◌≤◌, Bool, true, false, cond, not, ◌&&◌, eqb, ltb, ◌⊎◌, List, [], ◌∷◌, ◌++◌, length, get_or, take, drop, Some, None, sym, refl, ap, ◌∙◌, subst, inl, inr, ⊎_elim, arith, length-append, take-append-drop}
+use Rattle.std.proofs.Common.{◌≡◌, ℕ, ◌+◌, true, not, ◌&&◌, eqb, ◌⊎◌, List, [], ◌∷◌, ◌++◌, length, get_or, take, drop, sym, refl, ap, ◌∙◌, subst, inl, inr, ⊎_elim, arith, length-append, take-append-drop}
 use mathlib.Core.List.{append_cancel_left}
-use Rattle.std.specs.Str.{all_ascii_digits}
-use Rattle.std.proofs.lemmas.Bool.{cond-true, cond-false, cases_Bool, and_parts, and_left, eqb-true, not-true}
-use Rattle.std.proofs.lemmas.Bool.Decides.{nat_tests}
+use Rattle.std.proofs.lemmas.Bool.{cases_Bool, and_parts, eqb-true}
 use Rattle.script.specs.declared.items.Item.{Item}
 use Rattle.script.specs.declared.items.Item.TheVariants.{Word, Number, Form}
 use Rattle.script.specs.declared.items.Part.{Part}
 use Rattle.script.specs.declared.flaws.Flaw.TheVariants.{WrongItem}
 use Rattle.script.specs.Brackets.{after, fills}
-use Rattle.script.specs.Forms.{Piece, piece, onto, cut, placed, following, mismatch, next_place, is_no_number, NextNumber}
-use Rattle.script.specs.Items.{span, front, word, part, Sorted, Reads}
+use Rattle.script.specs.Forms.{onto, cut, placed, following, next_place, is_no_number, NextNumber}
+use Rattle.script.specs.Items.{span, front, word, Reads}
 use Rattle.script.specs.Numerals.{numeral}
 
 -- what is cut after the first piece: nothing, or what follows the space

@@ -1,16 +1,14 @@
 -- What stands between a line's brackets, from its first item on. Assumes nothing.
-use Rattle.std.proofs.Common.{◌≡◌, ℕ, suc, ◌+◌, ◌-◌, ◌<◌, ◌≤◌, Bool, true, false, cond, ◌&&◌, eqb, List, [], ◌∷◌, ◌++◌, length, get_or, take, drop, codes, Result, sym, refl, ap, ◌∙◌, subst, ⊎_elim, arith, length-append, length-drop, length-take-le}
+use Rattle.std.proofs.Common.{◌≡◌, ℕ, ◌+◌, ◌-◌, ◌<◌, ◌≤◌, Bool, true, false, eqb, List, [], ◌∷◌, length, drop, codes, Result, sym, refl, ap, ◌∙◌, subst, ⊎_elim, arith, length-append, length-drop, length-take-le}
 use Rattle.std.proofs.lemmas.Bool.{cond-true, cond-false, cases_Bool, and_parts, eqb-true}
-use Rattle.std.proofs.lemmas.Bool.Decides.{nat_tests}
 use Rattle.script.specs.declared.flaws.Flaw.{Flaw}
 use Rattle.script.specs.declared.forms.Form.{Form}
 use Rattle.script.specs.declared.items.Item.{Item}
-use Rattle.script.specs.declared.items.Part.{Part}
-use Rattle.script.specs.Brackets.{after, closes, fills}
+use Rattle.script.specs.Brackets.{closes, fills}
 use Rattle.script.specs.Forms.{Piece, piece, following, inside, inner, same, ByWord, word_of}
 use Rattle.script.specs.Items.{Reads, part}
 use Rattle.script.proofs.Cuts.{following_next}
-use Rattle.script.proofs.Spelling.{same_from, same_self}
+use Rattle.script.proofs.Spelling.{same_from}
 use Rattle.script.proofs.Threes.{past}
 
 -- an item that was read from a text at place 2 is the first piece there

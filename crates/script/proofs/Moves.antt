@@ -1,8 +1,8 @@
 -- One piece after the other. Assumes nothing.
-use Rattle.std.proofs.Common.{◌≡◌, ℕ, ◌+◌, ◌-◌, ◌^◌, ◌≤◌, min, eqb, List, [], ◌∷◌, ◌++◌, vec_items, sym, refl, ap, ◌∙◌, ⊎_elim, append_assoc, arith}
+use Rattle.std.proofs.Common.{◌≡◌, ℕ, ◌+◌, ◌-◌, ◌^◌, min, eqb, List, [], ◌∷◌, ◌++◌, vec_items, sym, refl, ap, ◌∙◌, ⊎_elim, append_assoc, arith}
 use Rattle.std.proofs.lemmas.Bool.{cases_Bool, eq-eqb, ne_eqb}
 use Rattle.script.specs.declared.sessions.Session.{Session}
-use Rattle.script.specs.Listing.{line_text, line_feeds, counted, kept_with, still}
+use Rattle.script.specs.Listing.{line_text, line_feeds, counted, kept_with}
 use Rattle.script.specs.Sessions.{due, Moved}
 
 module _ (s s' : Session) (w w' : List ℕ) (b : ℕ) where

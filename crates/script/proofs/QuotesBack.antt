@@ -1,5 +1,5 @@
 -- The line of a quote reads back as its three numbers. Assumes nothing.
-use Rattle.std.proofs.Common.{◌≡◌, ℕ, ◌+◌, ◌-◌, ◌^◌, ◌<◌, ◌≤◌, Bool, true, false, cond, not, ◌&&◌, eqb, leb, List, [], ◌∷◌, ◌++◌, length, get_or, take, drop, Ok, codes, decimal, sym, refl, ap, ◌∙◌, subst, append_assoc, arith, length-append}
+use Rattle.std.proofs.Common.{◌≡◌, ℕ, ◌≤◌, true, false, eqb, List, [], ◌∷◌, ◌++◌, length, Ok, codes, decimal, refl, ap, ◌∙◌, subst, append_assoc, arith, length-append}
 use Rattle.std.specs.Str.{all_ascii_digits}
 use Rattle.std.specs.Char.{is_ascii_digit}
 use Rattle.std.proofs.lemmas.Fmt.{length-decimal-le}
@@ -7,8 +7,8 @@ use Rattle.std.proofs.lemmas.List.{take_at}
 use Rattle.std.proofs.lemmas.Bool.{and_parts, and_from, le-leb, cond-true}
 use Rattle.std.proofs.lemmas.Bool.Decides.{nat_tests}
 use Rattle.script.specs.declared.forms.Form.TheVariants.{Quote}
-use Rattle.script.specs.Brackets.{after, closes, fills}
-use Rattle.script.specs.Forms.{Piece, cut, onto, placed, inside, inner, whole, word_of, quote_of, form_of}
+use Rattle.script.specs.Brackets.{closes, fills}
+use Rattle.script.specs.Forms.{cut, onto, placed, inside, inner, whole, word_of, form_of}
 use Rattle.script.specs.Numerals.{largest}
 use Rattle.script.specs.QuoteLines.{quote_line}
 use Rattle.script.proofs.Decimals.{digits_of, decimal_numeral, decimal_read, decimal_valued}

@@ -1,5 +1,5 @@
 -- No other line reads as a quote. Assumes nothing.
-use Rattle.std.proofs.Common.{◌≡◌, ℕ, zero, suc, ◌+◌, ◌-◌, ◌<◌, ◌≤◌, Bool, true, false, cond, not, ◌&&◌, eqb, leb, List, [], ◌∷◌, ◌++◌, map, length, get_or, is_some, Some, None, Ok, Err, codes, decimal, Option, Result, sym, refl, ap, ◌∙◌, subst, ⊎_elim, append_assoc, arith}
+use Rattle.std.proofs.Common.{◌≡◌, ℕ, suc, ◌+◌, ◌-◌, ◌<◌, Bool, true, ◌&&◌, eqb, leb, List, [], ◌∷◌, ◌++◌, map, length, is_some, Some, None, Ok, Err, codes, decimal, Option, Result, sym, refl, ap, ◌∙◌, subst, ⊎_elim, arith}
 use Rattle.std.proofs.lemmas.List.{nil_from_length}
 use Rattle.std.proofs.lemmas.Bool.{and_parts, and_from, and_right, not_from_true, not_from_false, cases_Bool, cases_eq, cond-true, cond-false, eqb-true, eq-eqb, ne_eqb}
 use Rattle.std.proofs.lemmas.Bool.Decides.{nat_tests}
@@ -7,7 +7,7 @@ use Rattle.script.specs.declared.flaws.Flaw.{Flaw}
 use Rattle.script.specs.declared.forms.Form.{Form}
 use Rattle.script.specs.declared.forms.Form.TheVariants.{Quote}
 use Rattle.script.specs.Brackets.{after, closes, fills}
-use Rattle.script.specs.Forms.{Piece, cut, onto, placed, inside, inner, same, mismatch, misnumbered, value, numbers_of, sorts_of, three_numerals, whole, word_of, quote_of, form_of}
+use Rattle.script.specs.Forms.{Piece, cut, onto, placed, inside, inner, same, mismatch, misnumbered, value, numbers_of, sorts_of, whole, word_of, quote_of, form_of}
 use Rattle.script.specs.Numerals.{numeral, valued, read}
 use Rattle.script.specs.QuoteLines.{quote_line}
 use Rattle.script.proofs.Decimals.{read_decimal}

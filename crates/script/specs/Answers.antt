@@ -3,7 +3,7 @@
 --   answered      the answer to a line, or its flaw; its last byte is the script's byte number `last`
 --   answer_text   an answer as it is written, without its line feed
 --   flaw_text     a flaw as it is written: its number and its position
-use Rattle.std.specs.Prelude.{ℕ, List, [], ◌∷◌, ◌++◌, Ok, Err, codes, decimal, Result}
+use Rattle.std.specs.Prelude.{ℕ, List, ◌++◌, Ok, Err, codes, decimal, Result}
 use Rattle.setting.specs.declared.refusals.Refusal.{Refusal}
 use Rattle.setting.specs.Quotes.{quoted}
 use Rattle.script.specs.declared.answers.Answer.{Answer}

@@ -13,7 +13,7 @@
 --   whole         a line of at most 200 bytes that is one bracketed form, and whose last byte is among the script's first
 --                 32,768; that byte's number in the script is `last`
 --   form_of       the form that a line holds, or its flaw
-use Rattle.std.specs.Prelude.{◌≡◌, ℕ, ◌+◌, ◌-◌, Bool, true, false, cond, not, ◌&&◌, List, [], ◌∷◌, ◌++◌, map, length, is_some, Some, None, Ok, Err, codes, Option, Result, ◌==◌, ◌≢◌, nat_le, slice_index_or}
+use Rattle.std.specs.Prelude.{◌≡◌, ℕ, ◌+◌, ◌-◌, Bool, true, false, cond, not, ◌&&◌, List, [], ◌∷◌, map, length, is_some, Some, None, Ok, Err, codes, Option, Result, ◌==◌, ◌≢◌, nat_le, slice_index_or}
 use Rattle.std.specs.List.{between}
 use Rattle.script.specs.declared.flaws.Flaw.{Flaw}
 use Rattle.script.specs.declared.flaws.Flaw.TheVariants.{NotAForm, UnknownWord, WrongItem, WrongNumber}

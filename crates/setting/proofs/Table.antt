@@ -1,11 +1,11 @@
 -- A refusal has the number of the first rule that is broken. Assumes nothing.
-use Rattle.std.proofs.Common.{◌≡◌, ℕ, ◌-◌, ◌<◌, ◌≤◌, Bool, true, false, cond, ltb, leb, IfErr, Some, None, Ok, Err, Result, sym, subst, inl, inr, ⊎_elim, arith}
+use Rattle.std.proofs.Common.{◌≡◌, ℕ, ◌-◌, true, false, cond, ltb, leb, IfErr, Some, None, Ok, Err, Result, sym, subst, inl, inr, ⊎_elim, arith}
 use Rattle.std.proofs.lemmas.Bool.{cond_both, and_parts, and_cases, leb-true, leb-false, ltb-true, ltb-false}
 use Rattle.setting.specs.declared.refusals.Refusal.{Refusal}
 use Rattle.setting.specs.declared.refusals.Refusal.TheVariants.{Size, Tolerance, SoundCount}
 use Rattle.setting.specs.Quotes.{quoted, counted, possible, round, Breaks, size, tolerance, sound}
 use Rattle.setting.specs.Refused.{numbered, placed}
-use Rattle.setting.specs.Settings.{unfit, sized, tolerates}
+use Rattle.setting.specs.Settings.{sized, tolerates}
 
 abbrev Told : (n t c : ℕ) → Result ℕ Refusal → Type 0
 Told n t c r = IfErr r (λ e. Breaks n t c (numbered e) (placed e))

@@ -2,14 +2,14 @@
 --   backers   the second names of a list of chains
 --   light     S without the names that a chain hides for w has fewer than w - 2 names
 --   every     every chain of a list passes a test
-use Rattle.std.proofs.Common.{◌≡◌, ℕ, suc, ◌+◌, ◌<◌, ◌≤◌, Bool, true, false, not, ◌&&◌, ◌||◌, eqb, ltb, leb, List, [], ◌∷◌, length, get_or, sym, refl, ap, ◌∙◌, subst, inr, ⊎_elim, arith}
+use Rattle.std.proofs.Common.{◌≡◌, ℕ, suc, ◌+◌, ◌≤◌, Bool, true, not, ◌&&◌, eqb, ltb, List, [], ◌∷◌, length, get_or, sym, refl, ap, subst, inr, ⊎_elim, arith}
 use mathlib.Core.Path.{fun_ext}
 use mathlib.Core.Bool.{or-false}
-use Rattle.std.proofs.lemmas.Bool.{true≢false, cases_lt, and_parts, or_cases, or_left, or_right, eqb-true, eq-eqb, leb-true, ltb-true}
+use Rattle.std.proofs.lemmas.Bool.{true≢false, cases_lt, and_parts, or_cases, or_left, or_right, eqb-true, eq-eqb, ltb-true}
 use Rattle.counting.specs.Lists.{alike, has, tally}
 use Rattle.counting.proofs.Alike.{alike_same, alike_self}
 use Rattle.weight.specs.Examples.{among, Worked}
-use Rattle.weight.specs.Weights.{Seconds, Bears, Borne, Weight, hidden}
+use Rattle.weight.specs.Weights.{Seconds, Bears, Weight, hidden}
 use Rattle.weight.proofs.Smaller.{smaller}
 
 abbrev backers : List (List ℕ) → List ℕ

@@ -1,6 +1,6 @@
 -- Gathering the second names of the taken chains, place by place. Assumes nothing.
 --   Gathered   the places below `at` have been looked at: S has the second names of the chains there, and no others
-use Rattle.std.proofs.Common.{◌≡◌, ℕ, ◌+◌, ◌^◌, ◌<◌, ◌≤◌, true, false, ◌||◌, eqb, List, [], ◌∷◌, length, take, drop, sym, refl, ap, ◌∙◌, subst, ⊎_elim, arith}
+use Rattle.std.proofs.Common.{◌≡◌, ℕ, ◌+◌, ◌^◌, ◌<◌, ◌≤◌, true, false, eqb, List, [], ◌∷◌, length, take, drop, sym, refl, ap, ◌∙◌, subst, ⊎_elim, arith}
 use lib.Bits.{bit_or, or_lt}
 use Rattle.std.proofs.lemmas.Bool.{true≢false, cases_lt, or_cases, or_left, or_right, eqb-true, eq-eqb}
 use Rattle.counting.specs.Lists.{has}

@@ -1,6 +1,6 @@
 -- What a switch knows of orders, code by code. Assumes nothing.
 --   KnownBelow   what is known of the orders whose codes are below `code`
-use Rattle.std.proofs.Common.{◌≡◌, ℕ, ◌+◌, ◌*◌, ◌/◌, ◌<◌, ◌≤◌, Bool, true, false, ◌&&◌, ltb, List, length, sym, refl, ap, ◌∙◌, subst, ⊎_elim, arith}
+use Rattle.std.proofs.Common.{◌≡◌, ℕ, ◌+◌, ◌*◌, ◌<◌, ◌≤◌, Bool, true, false, ◌&&◌, ltb, List, length, sym, refl, ap, ◌∙◌, ⊎_elim, arith}
 use Rattle.std.proofs.lemmas.Nat.{div-mul-add}
 use Rattle.std.proofs.lemmas.Bool.{true≢false, cases_Bool, cases_lt, and_parts, and_from, and_left, lt-ltb, le-ltb}
 use Rattle.chain.specs.Chains.{is_proper}
@@ -10,7 +10,7 @@ use Rattle.chain.proofs.ProperChains.{proper_from, proper_test}
 use Rattle.weight.specs.declared.cells.Cell.{Cell}
 use Rattle.weight.specs.declared.knowns.Known.{Known}
 use Rattle.weight.specs.declared.knowns.Known.TheVariants.{Nothing, Sole, Several}
-use Rattle.weight.specs.Cells.{taken_at, holds, One, Two, Knows}
+use Rattle.weight.specs.Cells.{taken_at, holds, Two, Knows}
 use Rattle.weight.proofs.TakenCells.{taken_past}
 
 abbrev pub KnownBelow : (ℕ → List ℕ → Bool) → ℕ → Known → Type 0

@@ -3,10 +3,9 @@
 --   NoneBefore    no held chain at a place below `at` bears w
 use Rattle.std.proofs.Common.{◌≡◌, ℕ, ◌+◌, ◌-◌, ◌^◌, ◌<◌, ◌≤◌, Bool, true, false, not, ◌&&◌, List, ◌∷◌, length, Some, None, Option, sym, ap, ◌∙◌, ⊎_elim, arith}
 use lib.Count.{ones}
-use Rattle.std.proofs.lemmas.Bool.{true≢false, cases_Bool, cases_lt, and_parts, ltb-true}
-use Rattle.counting.specs.Lists.{has, tally}
+use Rattle.std.proofs.lemmas.Bool.{true≢false, cases_Bool, cases_lt, and_parts}
+use Rattle.counting.specs.Lists.{has}
 use Rattle.counting.proofs.Crowds.{tally_grows}
-use Rattle.chain.specs.Chains.{Proper}
 use Rattle.chain.specs.Places.{within}
 use Rattle.chain.proofs.ProperChains.{second_low}
 use Rattle.order.specs.Sets.{has as in_mask, Member, least}
@@ -14,7 +13,7 @@ use Rattle.order.specs.Masks.{least_member}
 use Rattle.weight.specs.declared.cells.Cell.{Cell}
 use Rattle.weight.specs.Cells.{taken_at, held_in}
 use Rattle.weight.specs.Weights.{Seconds, Bears, Borne, hidden}
-use Rattle.weight.proofs.HeldChains.{held_proper, held_taken, held_from, held_inside, long_within}
+use Rattle.weight.proofs.HeldChains.{held_proper, held_taken, held_inside, long_within}
 use Rattle.weight.proofs.NameSets.{mask_tally}
 
 abbrev pub NoneHeavier : (n t : ℕ) → (List ℕ → Bool) → (ℕ → Bool) → ℕ → Type 0

@@ -1,5 +1,5 @@
 -- A chain that bears a weight bears every smaller one: with each step down at most one more name is hidden. Assumes nothing.
-use Rattle.std.proofs.Common.{◌≡◌, ℕ, ◌+◌, ◌-◌, ◌≤◌, min, Bool, true, false, not, ◌&&◌, ◌||◌, List, ◌++◌, length, take, drop, sym, ap, ◌∙◌, arith, length-drop, take-append-drop, length-take, take-take}
+use Rattle.std.proofs.Common.{◌≡◌, ℕ, ◌+◌, ◌-◌, ◌≤◌, Bool, false, not, ◌&&◌, List, ◌++◌, take, drop, sym, ap, ◌∙◌, arith, length-drop, take-append-drop, length-take, take-take}
 use Rattle.std.proofs.lemmas.Bool.{and_parts, and_from, or_from, not-true, not_from_false}
 use Rattle.counting.specs.Lists.{has, tally}
 use Rattle.counting.proofs.Crowds.{tally_grows, tally_without, has-append}

@@ -1,6 +1,6 @@
 -- How a follower and a sound lead stand after a close. Assumes nothing.
 use Rattle.std.proofs.Common.{◌≡◌, ℕ, suc, ◌+◌, ◌≤◌, true, ◌≢◌, List, sym, ap, ◌∙◌, inl, inr, ⊎_elim, arith}
-use Rattle.protocol.specs.declared.standings.Standing.TheVariants.{Waiting, Carry, Done}
+use Rattle.protocol.specs.declared.standings.Standing.TheVariants.{Waiting, Done}
 use Rattle.protocol.specs.Rings.{Ring, Fair, Follows}
 use Rattle.protocol.specs.Rounds.{Sole, Weighs, Closes, led, ends, done, quit, early, waits, quits, picks, Closed}
 use Rattle.protocol.specs.States.{State, Carried}

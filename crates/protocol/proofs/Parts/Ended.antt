@@ -4,7 +4,7 @@ use Rattle.std.proofs.Common.{◌≡◌, ℕ, suc, ◌+◌, ◌<◌, ◌≤◌, 
 use Rattle.std.proofs.lemmas.Bool.{cases_eq}
 use Rattle.protocol.specs.declared.standings.Standing.TheVariants.{Done, Quit}
 use Rattle.protocol.specs.Promises.{HasCarried}
-use Rattle.protocol.specs.Rings.{Ring, Fair, Sound, Follows}
+use Rattle.protocol.specs.Rings.{Ring, Fair, Sound}
 use Rattle.protocol.specs.Rounds.{Call, refused, sent, signed, laid, closed}
 use Rattle.protocol.specs.Runs.{Calls, none, one_more}
 use Rattle.protocol.specs.States.{State, Carried}

@@ -1,4 +1,4 @@
-use Rattle.std.proofs.Common.{◌≡◌, ◌/◌, ◌<◌, take, sym, ap, ◌∙◌, subst, arith}
+use Rattle.std.proofs.Common.{◌/◌, take, sym, ap, ◌∙◌, arith}
 use Rattle.chain.specs.Places.{place_of}
 use Rattle.chain.proofs.FirstFaults.{some_none}
 use Rattle.chain.proofs.Numbering.{apart, some_chain, code_of, lead_low}
@@ -11,13 +11,13 @@ returns-in_err-names g c =
     (record { chain = tt; back = λ v names p is. let low = lead_low _ _ _ names p in absurd (omega arith) })
 
 pub nonzero_div-place : goal.nonzero_div-place
-nonzero_div-place g c = let value = c.chains_per_order.ensures.value in let some = some_chain c.args.setting.now.size c.args.setting.now.tolerance in omega arith
+nonzero_div-place g c = let value = c.chains_per_order-chains.ensures.value in let some = some_chain c.args.setting.now.size c.args.setting.now.tolerance in omega arith
 
 pub returns-in_err-order : goal.returns-in_err-order
 returns-in_err-order g c =
     let told = c.in_err-order.ensures.back in
     rw c.from_residual-in_err-order.ensures
-    (record { chain = tt; back = λ v names p is. some_none v (sym (told v (code_of _ _ _ _ _ _ p is ∙ ap (λ n. c.args.place / n) (sym c.chains_per_order.ensures.value)))) })
+    (record { chain = tt; back = λ v names p is. some_none v (sym (told v (code_of _ _ _ _ _ _ p is ∙ ap (λ n. c.args.place / n) (sym c.chains_per_order-chains.ensures.value)))) })
 
 pub returns : goal.returns
 returns g c =
@@ -26,7 +26,7 @@ returns g c =
     let place = c.args.place in
     let names = take c.in_ok-names.names.count c.in_ok-names.names.list in
     let chain = c.in_ok-names.ensures in
-    let code = c.in_ok-order.ensures.has ∙ ap (λ z. place / z) c.chains_per_order.ensures.value in
+    let code = c.in_ok-order.ensures.has ∙ ap (λ z. place / z) c.chains_per_order-chains.ensures.value in
     let there = ap (λ z. place_of n t z names) code ∙ chain.1 in
     record {
       chain = (chain.0, there);

@@ -1,4 +1,4 @@
-use Rattle.std.proofs.Common.{◌≡◌, ◌+◌, ◌-◌, ◌<◌, sym, subst, arith}
+use Rattle.std.proofs.Common.{◌+◌, ◌-◌, ◌<◌, sym, subst, arith}
 use Rattle.chain.specs.Ranks.{shorter}
 use Rattle.chain.proofs.Spelling.{not_longest, shortened_more, more_ways_low}
 use Rattle.chain.proofs.chains.length_at.Goals as goal

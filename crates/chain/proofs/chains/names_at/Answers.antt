@@ -1,4 +1,4 @@
-use Rattle.std.proofs.Common.{◌≡◌, ◌+◌, ◌*◌, ◌/◌, ◌%◌, ◌<◌, sym, ap, ◌∙◌, subst, mod-lt, div-add-mod', arith}
+use Rattle.std.proofs.Common.{◌+◌, ◌*◌, ◌/◌, ◌%◌, ◌<◌, sym, ap, ◌∙◌, subst, mod-lt, div-add-mod', arith}
 use Rattle.chain.specs.Places.{per_order}
 use Rattle.chain.proofs.Numbering.{Chained, some_chain, spelled_chain}
 use Rattle.chain.proofs.chains.names_at.Goals as goal

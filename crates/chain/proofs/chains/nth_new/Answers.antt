@@ -1,4 +1,4 @@
-use Rattle.std.proofs.Common.{◌≡◌, ℕ, ◌+◌, not, ap, arith}
+use Rattle.std.proofs.Common.{◌≡◌, ℕ, not, ap, arith}
 use Rattle.counting.specs.Lists.{tally}
 use Rattle.std.proofs.lemmas.Bool.{not_from_true, not_from_false}
 use Rattle.order.specs.Sets.{has as in_mask}

@@ -1,4 +1,4 @@
-use Rattle.std.proofs.Common.{◌≡◌, ◌+◌, ◌-◌, ◌/◌, ◌<◌, ◌≤◌, not, [], ◌∷◌, sym, refl, ap, ◌∙◌, subst, arith}
+use Rattle.std.proofs.Common.{◌≡◌, ◌+◌, ◌-◌, ◌/◌, ◌<◌, not, [], ◌∷◌, sym, refl, ap, ◌∙◌, subst, arith}
 use Rattle.counting.specs.Lists.{tally}
 use Rattle.order.specs.Sets.{has as in_mask}
 use Rattle.chain.specs.Ranks.{ways, spelled}

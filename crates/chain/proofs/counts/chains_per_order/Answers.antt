@@ -1,4 +1,4 @@
-use Rattle.std.proofs.Common.{◌≡◌, ◌+◌, ◌-◌, ◌∙◌, arith}
+use Rattle.std.proofs.Common.{◌+◌, ◌-◌, ◌∙◌, arith}
 use Rattle.chain.specs.Ranks.{shorter}
 use Rattle.chain.proofs.Bounds.{shorter_low}
 use Rattle.chain.proofs.Numbering.{some_chain, places}

@@ -1,4 +1,4 @@
-use Rattle.std.proofs.Common.{◌≡◌, suc, ◌+◌, ◌-◌, ◌*◌, ◌<◌, ◌≤◌, sym, ap, ◌∙◌, arith}
+use Rattle.std.proofs.Common.{◌≡◌, suc, ◌+◌, ◌-◌, ◌*◌, sym, ap, ◌∙◌, arith}
 use Rattle.chain.specs.Ranks.{ways, shorter}
 use Rattle.chain.proofs.Bounds.{ways_last, shorter_low, ways_low}
 use Rattle.chain.proofs.counts.count_shorter.Goals as goal

@@ -1,4 +1,4 @@
-use Rattle.std.proofs.Common.{◌≡◌, ◌+◌, ◌-◌, ◌≤◌, length, get_or, take, drop, ap, ◌∙◌, arith}
+use Rattle.std.proofs.Common.{◌≡◌, ◌+◌, ◌-◌, length, take, drop, ap, ◌∙◌, arith}
 use Rattle.chain.specs.Places.{within}
 use Rattle.chain.specs.Ranks.{shorter}
 use Rattle.chain.proofs.Numbering.{put_together, some_names, taken_apart, within_bound}

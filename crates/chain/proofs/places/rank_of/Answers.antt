@@ -1,5 +1,4 @@
-use Rattle.std.proofs.Common.{◌≡◌, ◌-◌, ◌*◌, ◌%◌, ◌^◌, ◌≤◌, get_or, sym, refl, ap, subst, arith}
-use Rattle.chain.proofs.Numbering.{lead_low}
+use Rattle.std.proofs.Common.{◌≡◌, ◌-◌, ◌*◌, ◌%◌, ◌^◌, sym, refl, ap, subst, arith}
 use Rattle.chain.proofs.Ranking.{Ranking, ranking_none, name_low, free_some, next_low, next_ranking, ranked_all}
 use Rattle.chain.proofs.places.rank_of.Goals as goal
 

@@ -1,4 +1,4 @@
-use Rattle.std.proofs.Common.{◌≡◌, ◌+◌, length, codes, ap, ◌∙◌, rules}
+use Rattle.std.proofs.Common.{◌+◌, length, codes, ap, ◌∙◌, rules}
 use Rattle.script.specs.Forms.{quote_of, following}
 use Rattle.script.proofs.Spelling.{spelled}
 use Rattle.script.proofs.forms.read_by_word.Goals as goal

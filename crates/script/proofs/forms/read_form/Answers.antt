@@ -1,4 +1,4 @@
-use Rattle.std.proofs.Common.{◌≡◌, Err, sym, ap, ◌∙◌, rules}
+use Rattle.std.proofs.Common.{◌≡◌, Err, sym, ap, ◌∙◌}
 use Rattle.std.proofs.lemmas.Bool.{cond-true, cond-false}
 use Rattle.script.specs.declared.flaws.Flaw.TheVariants.{NotAForm}
 use Rattle.script.specs.Forms.{word_of, inside, inner, form_of}

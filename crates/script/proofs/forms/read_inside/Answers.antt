@@ -1,6 +1,6 @@
-use Rattle.std.proofs.Common.{◌≡◌, ◌+◌, length, sym, ◌∙◌, subst, arith}
+use Rattle.std.proofs.Common.{sym, ◌∙◌, subst, arith}
 use Rattle.script.specs.declared.items.Item.TheVariants.{Word}
-use Rattle.script.specs.Forms.{piece, word_of, inside}
+use Rattle.script.specs.Forms.{word_of}
 use Rattle.script.specs.Items.{Reads}
 use Rattle.script.proofs.Lines.{by_word, first_long, first_inside}
 use Rattle.script.proofs.forms.read_inside.Goals as goal

@@ -1,5 +1,5 @@
 use Rattle.std.proofs.Common.{◌≡◌, ℕ, ◌+◌, ◌-◌, ◌≤◌, not, ◌&&◌, leb, take, drop, sym, ap, ◌∙◌, subst, arith}
-use Rattle.counting.specs.Lists.{has, tally}
+use Rattle.counting.specs.Lists.{has}
 use Rattle.counting.proofs.Tallies.{tally_most, tally_alike}
 use Rattle.order.specs.Sets.{has as in_mask}
 use Rattle.weight.specs.Weights.{hidden}

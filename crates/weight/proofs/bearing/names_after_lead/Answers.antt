@@ -1,6 +1,6 @@
-use Rattle.std.proofs.Common.{◌≡◌, ℕ, ◌-◌, ◌<◌, ◌≤◌, min, true, false, List, [], ◌∷◌, length, take, drop, sym, ap, ◌∙◌, subst, arith, rules}
+use Rattle.std.proofs.Common.{◌-◌, ◌<◌, min, length, take, drop, sym, ap, ◌∙◌, rules}
 use Rattle.std.proofs.lemmas.List.{take_rest}
-use Rattle.counting.specs.Lists.{has, below}
+use Rattle.counting.specs.Lists.{has}
 use Rattle.counting.proofs.Prefixes.{below-take, below-drop}
 use Rattle.weight.proofs.AfterLead.{nothing_after, take_clipped}
 use Rattle.weight.proofs.NameSets.{empty_mask}

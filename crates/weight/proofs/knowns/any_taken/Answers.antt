@@ -1,4 +1,4 @@
-use Rattle.std.proofs.Common.{◌≡◌, false, sym, refl, ⊎_elim, arith, below_more}
+use Rattle.std.proofs.Common.{⊎_elim, arith, below_more}
 use Rattle.std.proofs.lemmas.Bool.{true≢false, false≢true, cases_lt}
 use Rattle.weight.proofs.TakenCells.{taken_past}
 use Rattle.weight.proofs.knowns.any_taken.Goals as goal

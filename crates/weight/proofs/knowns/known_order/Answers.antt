@@ -1,6 +1,5 @@
-use Rattle.std.proofs.Common.{◌≡◌, ◌+◌, ◌<◌, List, sym, subst, arith}
+use Rattle.std.proofs.Common.{◌+◌, ◌<◌, sym, subst, arith}
 use Rattle.weight.specs.declared.knowns.Known.{Known}
-use Rattle.weight.specs.declared.knowns.Known.TheVariants.{Nothing}
 use Rattle.weight.specs.Cells.{holds}
 use Rattle.weight.proofs.Knowing.{KnownBelow, past_codes, no_chains, some_held, none_held, nothing_new, first_known, two_known, all_known}
 use Rattle.weight.proofs.knowns.known_order.Goals as goal

@@ -1,4 +1,4 @@
-use Rattle.std.proofs.Common.{◌≡◌, ◌+◌, ◌*◌, ◌<◌, ◌≤◌, min, length, ap, ◌∙◌, subst}
+use Rattle.std.proofs.Common.{◌+◌, ◌*◌, min, length, ap, ◌∙◌}
 use Rattle.weight.proofs.TakenCells.{part_few, part_taken}
 use Rattle.weight.proofs.parts.part_of.Goals as goal
 

@@ -1,4 +1,4 @@
-use Rattle.std.proofs.Common.{◌≡◌, length, sym, ap, ◌∙◌, subst, arith}
+use Rattle.std.proofs.Common.{◌≡◌, ap, ◌∙◌, arith}
 use lib.Count.{ones-le}
 use Rattle.chain.proofs.Numbering.{per_order_bound}
 use Rattle.order.specs.Sets.{has as in_mask}

@@ -1,4 +1,4 @@
-use Rattle.std.proofs.Common.{◌≡◌, ℕ, ◌+◌, true, length, take, drop, sym, ap, ◌∙◌, subst, arith}
+use Rattle.std.proofs.Common.{◌≡◌, ℕ, ◌+◌, true, take, drop, sym, ap, ◌∙◌, subst, arith}
 use Rattle.counting.specs.Lists.{has, below}
 use Rattle.counting.proofs.Pushes.{below_wider}
 use Rattle.chain.proofs.Numbering.{per_order_bound}

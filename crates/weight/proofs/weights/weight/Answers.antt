@@ -1,4 +1,4 @@
-use Rattle.std.proofs.Common.{◌≡◌, sym, refl, ap, ◌∙◌, subst, arith}
+use Rattle.std.proofs.Common.{arith}
 use Rattle.weight.proofs.Examples.{worked}
 use Rattle.weight.proofs.Smaller.{smaller}
 use Rattle.weight.proofs.Weighing.{weighs_nothing, weighs_held, no_order}

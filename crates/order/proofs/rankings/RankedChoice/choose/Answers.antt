@@ -1,4 +1,4 @@
-use Rattle.std.proofs.Common.{◌≡◌, sym, ◌∙◌, arith}
+use Rattle.std.proofs.Common.{sym, ◌∙◌, arith}
 use Rattle.order.specs.Earliest.{wins, stays_out, stays_behind, best_so_far, best_low, ranked_is, ranked_first}
 use Rattle.order.specs.Masks.{on_from, off_from}
 use Rattle.order.proofs.rankings.RankedChoice.choose.Goals as goal

@@ -1,4 +1,4 @@
-use Rattle.std.proofs.Common.{◌≡◌, sym, refl, rules}
+use Rattle.std.proofs.Common.{sym, refl, rules}
 use Rattle.std.proofs.lemmas.Bool.{cond-false, and_right}
 use Rattle.counting.proofs.Tallies.{tally_none}
 use Rattle.scheme.proofs.GridLaws.{no_bit}

@@ -1,4 +1,4 @@
-use Rattle.std.proofs.Common.{◌≡◌, [], ◌++◌, sym, ap, ◌∙◌, append-nil}
+use Rattle.std.proofs.Common.{[], ◌++◌, ◌∙◌, append-nil}
 use Rattle.script.specs.Sessions.{due}
 use Rattle.script.proofs.sessions.reading.answer_script.Goals as goal
 

@@ -1,5 +1,5 @@
 use Rattle.std.proofs.Common.{◌≡◌, refl, arith}
-use Rattle.scheme.proofs.BookLaws.{refuses, repeats, signs_next, writes_none, writes_next, stale_outside}
+use Rattle.scheme.proofs.BookLaws.{refuses, signs_next, writes_none, writes_next, stale_outside}
 use Rattle.scheme.specs.Books.{marks}
 use Rattle.scheme.proofs.books.signing.BookScheme.sign.Goals as goal
 
