@@ -13,7 +13,8 @@ use setting::Setting;
 
 /// The name that was not seen and has this many such names below it.
 fn nth_new(seen: u16, size: u32, digit: u32) -> u32
-    requires { (size ≤ 12) × (digit < tally (λ q. not (in_mask seen q)) size) }
+    requires small { size ≤ 12 }
+    requires enough { digit < tally (λ q. not (in_mask seen q)) size }
     ensures { (result < size) × (in_mask seen result ≡ false) × (tally (λ q. not (in_mask seen q)) result ≡ digit) }
 {
     let mut left = digit;
@@ -61,7 +62,10 @@ fn length_at(setting: &Setting, index: u32) -> Among
 
 /// The names of a chain from its rank, digit by digit.
 fn spell(setting: &Setting, lead: u32, among: Among) -> Names
-    requires { (lead < setting.now.size) × ((among.others ≤ setting.now.tolerance) × ((among.ways ≡ ways (setting.now.size - 1) among.others) × (among.rank < among.ways))) }
+    requires leads { lead < setting.now.size }
+    requires few { among.others ≤ setting.now.tolerance }
+    requires all { among.ways ≡ ways (setting.now.size - 1) among.others }
+    requires below { among.rank < among.ways }
     ensures { take result.count result.list ≡ lead ∷ spelled setting.now.size (setting.now.size - 1) (lead ∷ []) among.others among.rank }
 {
     let size = setting.size();

@@ -7,7 +7,8 @@ use setting::Setting;
 
 /// How many ways there are to write fewer than `count` different names out of `others`.
 pub(crate) fn count_shorter(others: u32, count: u32) -> u32
-    requires { (others ≤ 11) × (count ≤ others + 1) }
+    requires small { others ≤ 11 }
+    requires few { count ≤ others + 1 }
     ensures { result ≡ shorter others count }
 {
     let mut total = 0;

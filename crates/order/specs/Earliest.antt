@@ -1,4 +1,4 @@
--- The code of a set with the smallest rank. Assumes nothing.
+-- Lemmas: the code of a set with the smallest rank. The law of the choice by list is proved by them. Assumes nothing.
 use Rattle.std.specs.Prelude.{◌≡◌, ℕ, zero, suc, ◌+◌, ◌^◌, ◌<◌, ◌≤◌, Bool, true, false, ◌&&◌, List, IfSome, Some, None, Option, ◌≢◌, slice_index, refl}
 use Rattle.std.proofs.Common.{sym, ap, subst, ◌∙◌, ⊎_elim, arith}
 use Rattle.std.proofs.lemmas.Bool.{cases_Bool, cases_eq, cond-true, cond-false, and_parts, and_from, and_left, and_right, and_cases, ltb-true, ltb-false}

@@ -1,4 +1,4 @@
--- Masks by their bits, and the first bit of one. Assumes nothing.
+-- Lemmas: masks by their bits, and the first bit of one. The law of the choice by number order is proved by them. Assumes nothing.
 use Rattle.std.specs.Prelude.{◌≡◌, ℕ, zero, suc, ◌+◌, ◌-◌, ◌*◌, ◌/◌, ◌%◌, ◌^◌, ◌<◌, ◌≤◌, true, false, ◌||◌, ◌⊎◌, Some, None, Option, ◌==◌, ◌≢◌, bit_and, nat_eq, refl}
 use Rattle.std.proofs.Math.Path.{sym}
 use Rattle.std.proofs.Common.{ap, subst, ◌∙◌, inl, inr, ⊎_elim, arith}

@@ -5,7 +5,7 @@
 --   beats      a code stands before the best so far, by the table
 --   earliest   of the codes below n that are in a set, the one with the smallest rank
 --   ranked     the same of all sixteen codes
-use Rattle.std.specs.Prelude.{◌≡◌, ℕ, zero, suc, ◌<◌, Bool, true, cond, ◌&&◌, List, length, Some, None, Option, ◌≢◌, nat_lt, slice_index, slice_index_or}
+use Rattle.std.specs.Prelude.{◌≡◌, ℕ, zero, suc, ◌<◌, Bool, true, cond, ◌&&◌, List, length, Some, None, Option, ◌≢◌, nat_lt, slice_index}
 use Rattle.counting.specs.Lists.{distinct}
 use Rattle.order.specs.Sets.{has}
 
@@ -16,7 +16,7 @@ pub record EachOnce (list : List ℕ) : Type 0 where
 
 pub record First (list : List ℕ) (c i : ℕ) : Type 0 where
   pub within : i < length list
-  pub here : slice_index_or list i 0 ≡ c
+  pub here : slice_index list i ≡ c
   pub not_before : (j : ℕ) → j < i → slice_index list j ≢ c
 
 pub record Ranks (list ranks : List ℕ) : Type 0 where

@@ -41,7 +41,8 @@ impl Ranked {
 
     /// Whether a code stands before the best so far.
     fn is_before(&self, code: u32, best: Option<u32>) -> bool
-        requires { (code < 16) × (IfSome best (λ b. b < 16)) }
+        requires code { code < 16 }
+        requires best { IfSome best (λ b. b < 16) }
         ensures { result ≡ beats self.now.ranks code best }
     {
         match best {

@@ -1,4 +1,4 @@
--- A book's marks are lawful: its `impl` hands this proof to the trait. Assumes nothing.
+-- Lemmas: a book's marks are lawful. Its `impl` hands the last of them to the trait. Assumes nothing.
 use Rattle.std.specs.Prelude.{◌≡◌, ℕ, suc, ◌+◌, ◌≤◌, false, List, [], ◌∷◌, length, take, ◌==◌, refl}
 use Rattle.std.proofs.Common.{◌∙◌, ⊎_elim, arith}
 use Rattle.std.proofs.lemmas.Bool.{cases_Bool, cond-true, cond-false, or_parts}

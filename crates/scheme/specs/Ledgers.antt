@@ -3,7 +3,7 @@
 --   recorded   how many places below the count are signed
 --   checks     the ledger has this mark at this place
 --   Signs      what signing a place answers, and what it makes of the ledger
-use Rattle.std.specs.Prelude.{◌≡◌, ℕ, ◌^◌, ◌<◌, ◌≤◌, Bool, ◌&&◌, ltb, ◌==◌, ◌≢◌, nat_lt}
+use Rattle.std.specs.Prelude.{◌≡◌, ℕ, ◌^◌, ◌<◌, ◌≤◌, Bool, ◌&&◌, ◌==◌, ◌≢◌, nat_lt}
 use Rattle.counting.specs.Lists.{tally}
 
 pub record Lawful {S : Type 0} (counted : S → ℕ) (ledger : S → ℕ → ℕ) : Type 0 where
@@ -11,7 +11,7 @@ pub record Lawful {S : Type 0} (counted : S → ℕ) (ledger : S → ℕ → ℕ
   pub narrow : (s : S) (p : ℕ) → ledger s p < 2 ^ 32
 
 abbrev pub recorded : (ℕ → ℕ) → ℕ → ℕ
-recorded ledger n = tally (λ p. ltb 0 (ledger p)) n
+recorded ledger n = tally (λ p. nat_lt 0 (ledger p)) n
 
 abbrev pub checks : (ℕ → ℕ) → ℕ → ℕ → Bool
 checks ledger place mark = nat_lt 0 mark && ledger place == mark

@@ -10,9 +10,6 @@ pub trait Scheme {
     /// The mark of a place, or 0 where it is not signed.
     ghost ledger: { Self → ℕ → ℕ };
 
-    /// What each `impl` shows of the two.
-    ghost lawful: { Lawful counted ledger };
-
     fn count(&self) -> u32
         ensures { result ≡ counted self.now };
 
@@ -28,4 +25,7 @@ pub trait Scheme {
     fn sign(&mut self, place: u32) -> u32
         ensures signs { Signs (counted self.old) (ledger self.old) (ledger self.new) place result }
         ensures count { counted self.new ≡ counted self.old };
+
+    /// What each `impl` shows of the two.
+    ghost lawful: { Lawful counted ledger };
 }

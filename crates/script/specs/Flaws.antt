@@ -1,6 +1,6 @@
 -- The number and the place of each flaw. Assumes nothing.
 --   numbered   the number that a flaw is known by, or that of the refusal inside it
---   byte_of     the byte of the line at fault, from 1
+--   byte_of    the byte of the line at fault, from 1
 --   placed     the position that is written beside the number
 use Rattle.std.specs.Prelude.{ℕ}
 use Rattle.script.specs.declared.flaws.Flaw.{Flaw}

@@ -37,7 +37,8 @@ fn names_after_lead(names: &[u32], count: usize) -> u16
 
 /// Whether S without the names that a chain hides for this weight has at least weight − 2 names.
 fn bears(setting: &Setting, seconds: u16, weight: u32, names: &[u32]) -> bool
-    requires { (below 12 names.now ≡ true) × (((q : ℕ) → setting.now.size ≤ q → in_mask seconds q ≡ false)) }
+    requires low { below 12 names.now ≡ true }
+    requires backers { (q : ℕ) → setting.now.size ≤ q → in_mask seconds q ≡ false }
     ensures { result ≡ nat_le weight (2 + tally (λ q. in_mask seconds q && not (has q (hidden setting.now.tolerance weight names.now))) setting.now.size) }
 {
     let count = (setting.tolerance() + 2).saturating_sub(weight);
@@ -47,7 +48,8 @@ fn bears(setting: &Setting, seconds: u16, weight: u32, names: &[u32]) -> bool
 
 /// Whether the chain at a place of its order bears a weight.
 pub(crate) fn bears_at(setting: &Setting, lead: u32, seconds: u16, weight: u32, at: u32) -> bool
-    requires { (((q : ℕ) → setting.now.size ≤ q → in_mask seconds q ≡ false)) × (at < per_order setting.now.size setting.now.tolerance) }
+    requires backers { (q : ℕ) → setting.now.size ≤ q → in_mask seconds q ≡ false }
+    requires there { at < per_order setting.now.size setting.now.tolerance }
     ensures some { result ≡ true → (names : List ℕ) × Proper setting.now.size setting.now.tolerance lead names × (within setting.now.size names ≡ at) × Bears setting.now.size setting.now.tolerance (in_mask seconds) weight names }
     ensures none { result ≡ false → (names : List ℕ) → Proper setting.now.size setting.now.tolerance lead names → within setting.now.size names ≡ at → Bears setting.now.size setting.now.tolerance (in_mask seconds) weight names → ⊥ }
 {

@@ -30,7 +30,9 @@ fn second_names(setting: &Setting, lead: u32, part: &[Cell]) -> u16
 
 /// The greatest weight that a taken chain bears, where S is not empty: the search goes down from |S| + 2.
 fn greatest_borne(setting: &Setting, lead: u32, part: &[Cell], seconds: u16) -> u32
-    requires { (length part.now ≤ per_order setting.now.size setting.now.tolerance) × ((Seconds (held_in setting.now.size setting.now.tolerance lead part.now) (in_mask seconds)) × ((seconds ≢ 0))) }
+    requires few { length part.now ≤ per_order setting.now.size setting.now.tolerance }
+    requires backers { Seconds (held_in setting.now.size setting.now.tolerance lead part.now) (in_mask seconds) }
+    requires some { seconds ≢ 0 }
     ensures reached { Borne setting.now.size setting.now.tolerance (held_in setting.now.size setting.now.tolerance lead part.now) (in_mask seconds) result }
     ensures most { (v : ℕ) → Borne setting.now.size setting.now.tolerance (held_in setting.now.size setting.now.tolerance lead part.now) (in_mask seconds) v → v ≤ result }
 {

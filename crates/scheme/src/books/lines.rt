@@ -49,7 +49,8 @@ impl<'a> Book<'a> {
     /// Writes a place that is not signed into the next line. The places that are signed are different and below the
     /// count, and this is one more of them, so there is a line left.
     pub(crate) fn write_next(&mut self, place: u32) -> u32
-        requires { (place < self.old.count) × (marks self.old place ≡ 0) }
+        requires below { place < self.old.count }
+        requires new { marks self.old place ≡ 0 }
         ensures { NextLine self.old place self.new result }
     {
         self.lines[self.used as usize] = place;

@@ -31,7 +31,8 @@ impl Grid {
 
     /// Sets the bit of a place that is not signed.
     pub(crate) fn set_bit(&mut self, place: u32)
-        requires { (place < self.old.count) × (bit_at self.old.bits place ≡ false) }
+        requires below { place < self.old.count }
+        requires unset { bit_at self.old.bits place ≡ false }
         ensures { BitSet self.old place self.new }
     {
         let word = (place / 64) as usize;

@@ -51,7 +51,7 @@ impl Session {
     /// Reads the next piece of the script, and writes the answers to the lines that end in it. However a script is cut
     /// into pieces, they and `finish` write its listing.
     pub fn feed(&mut self, piece: &[u8], out: &mut String) -> Result<(), AllocError>
-        ensures { OnOk result (Moved self.entry.now (string_bytes out.old) piece.now self.exit.now (string_bytes out.new)) }
+        ensures { OnOk result (Moved self.old (string_bytes out.old) piece.now self.new (string_bytes out.new)) }
     {
         for b in piece {
             self.take_byte(*b, out)?;
@@ -70,7 +70,7 @@ impl Session {
     }
 
     fn line(&self) -> Line<'_>
-        ensures { (result.number ≡ self.entry.now.number) × (result.last ≡ self.entry.now.read) × (result.bytes.now ≡ self.entry.now.kept.items) }
+        ensures { (result.number ≡ self.now.number) × (result.last ≡ self.now.read) × (result.bytes.now ≡ self.now.kept.items) }
     {
         Line {
             number: self.number,
@@ -80,7 +80,7 @@ impl Session {
     }
 
     fn take_byte(&mut self, b: u8, out: &mut String) -> Result<(), AllocError>
-        ensures { OnOk result (Moved self.entry.now (string_bytes out.old) (b ∷ []) self.exit.now (string_bytes out.new)) }
+        ensures { OnOk result (Moved self.old (string_bytes out.old) (b ∷ []) self.new (string_bytes out.new)) }
     {
         if b == b'\n' {
             self.end_line(out)
@@ -91,7 +91,7 @@ impl Session {
 
     /// Answers the line that was read, and begins the next.
     fn end_line(&mut self, out: &mut String) -> Result<(), AllocError>
-        ensures { OnOk result ((string_bytes out.new ≡ string_bytes out.old ++ line_text self.entry.now.read self.entry.now.kept.items) × (self.exit.now.kept.items ≡ []) × (self.exit.now.read ≡ counted self.entry.now.read) × (self.exit.now.number ≡ min (2 ^ 64 - 1) (self.entry.now.number + 1))) }
+        ensures { OnOk result ((string_bytes out.new ≡ string_bytes out.old ++ line_text self.old.read self.old.kept.items) × (self.new.kept.items ≡ []) × (self.new.read ≡ counted self.old.read) × (self.new.number ≡ min (2 ^ 64 - 1) (self.old.number + 1))) }
     {
         write_reply(out, self.line())?;
         self.kept.clear();
@@ -101,7 +101,7 @@ impl Session {
     }
 
     fn keep_byte(&mut self, b: u8) -> Result<(), AllocError>
-        ensures { OnOk result ((self.exit.now.kept.items ≡ kept_with self.entry.now.kept.items b) × (self.exit.now.read ≡ counted self.entry.now.read) × (self.exit.now.number ≡ self.entry.now.number)) }
+        ensures { OnOk result ((self.new.kept.items ≡ kept_with self.old.kept.items b) × (self.new.read ≡ counted self.old.read) × (self.new.number ≡ self.old.number)) }
     {
         if self.kept.len() < KEPT_BYTES {
             self.kept.push(b)?;
@@ -111,7 +111,7 @@ impl Session {
     }
 
     fn count_byte(&mut self)
-        ensures { (self.exit.now.read ≡ counted self.entry.now.read) × (self.exit.now.number ≡ self.entry.now.number) × (self.exit.now.kept ≡ self.entry.now.kept) }
+        ensures { (self.new.read ≡ counted self.old.read) × (self.new.number ≡ self.old.number) × (self.new.kept ≡ self.old.kept) }
     {
         if self.read < COUNTED_BYTES {
             self.read += 1;

@@ -35,5 +35,5 @@ returns c =
     let end : c.loop-q.q ≡ c.args.size = let a = c.loop-q-test.false in let b = c.loop-q.auto.q-end in omega arith in
     let all = ap (tally (λ q. not (in_mask c.args.seen q))) end in
     let is = c.loop-q.invariant in
-    let low = c.requires.1 in
+    let low = c.requires.enough in
     absurd (omega arith)

@@ -8,8 +8,8 @@ use Rattle.chain.proofs.chains.spell.Goals as goal
 pub loop-i-init : goal.loop-i-init
 loop-i-init c =
     let is = c.size-size.ensures.value in
-    let low = c.requires.0 in
-    spelling_none _ _ _ _ _ _ (omega arith) c.size-size.ensures.bounds.1 (c.requires.1.1.0 ∙ sym (ap (λ n. ways (n - 1) c.args.among.others) is)) c.requires.1.1.1 refl refl
+    let low = c.requires.leads in
+    spelling_none _ _ _ _ _ _ (omega arith) c.size-size.ensures.bounds.1 (c.requires.all ∙ sym (ap (λ n. ways (n - 1) c.args.among.others) is)) c.requires.below refl refl
 
 pub nonzero_div-ways : goal.nonzero_div-ways
 nonzero_div-ways c = free_some _ _ _ _ _ _ _ _ _ _ c.loop-i.invariant c.loop-i-test.true
@@ -24,7 +24,10 @@ pub nth_new-name-requires : goal.nth_new-name-requires
 nth_new-name-requires c =
     let d = divided _ _ _ _ _ _ _ _ _ _ c.loop-i.invariant c.loop-i-test.true in
     let l = digit_low _ _ _ _ _ _ _ _ _ _ c.loop-i.invariant c.loop-i-test.true in
-    (c.size-size.ensures.bounds.1, subst (λ w. c.loop-i.rank / w < tally (λ q. not (in_mask c.loop-i.seen q)) c.size-size.result) (sym d) l)
+    record {
+      small = c.size-size.ensures.bounds.1;
+      enough = subst (λ w. c.loop-i.rank / w < tally (λ q. not (in_mask c.loop-i.seen q)) c.size-size.result) (sym d) l;
+    }
 
 pub nonzero_rem-rank : goal.nonzero_rem-rank
 nonzero_rem-rank c =
@@ -38,7 +41,7 @@ overflow_sub-free-in-loop-i c = let f = free_some _ _ _ _ _ _ _ _ _ _ c.loop-i.i
 pub loop-i-preserved : goal.loop-i-preserved
 loop-i-preserved c =
     let on = c.loop-i-test.true in
-    let few = c.requires.1.0 in
+    let few = c.requires.few in
     let below = c.args.setting.now.below in
     let most = c.args.setting.now.most in
     let d = divided _ _ _ _ _ _ _ _ _ _ c.loop-i.invariant on in

@@ -5,7 +5,7 @@ use Rattle.chain.proofs.counts.count_shorter.Goals as goal
 
 pub overflow_add-total : goal.overflow_add-total
 overflow_add-total c =
-    let few = c.requires.0 in
+    let few = c.requires.small in
     let s = shorter_low c.args.others (suc c.loop-used.used) few in
     let t = c.loop-used.invariant.0 in
     let w = c.loop-used.invariant.1 in
@@ -14,7 +14,7 @@ overflow_add-total c =
 pub overflow_mul-ways : goal.overflow_mul-ways
 overflow_mul-ways c =
     let w = ap (λ z. z * (c.args.others - c.loop-used.used)) c.loop-used.invariant.1 ∙ sym (ways_last c.args.others c.loop-used.used) in
-    let s = ways_low c.args.others (suc c.loop-used.used) c.requires.0 in
+    let s = ways_low c.args.others (suc c.loop-used.used) c.requires.small in
     omega arith
 
 pub loop-used-preserved : goal.loop-used-preserved

@@ -8,7 +8,7 @@ use Rattle.weight.proofs.bearing.bears.Goals as goal
 pub overflow_add-result : goal.overflow_add-result
 overflow_add-result c =
     let n = c.args.setting.now.size in
-    let is = c.count_without.ensures n c.requires.1 in
+    let is = c.count_without.ensures n c.requires.backers in
     let few = subst (λ k. k ≤ n) (sym is) (tally_most _ n) in
     let small = c.args.setting.now.most in
     record { fits = omega arith }
@@ -21,5 +21,5 @@ returns c =
     let w = c.args.weight in
     let count : c.saturating_sub-count.result ≡ t + 2 - w = c.saturating_sub-count.ensures ∙ ap (λ k. k + 2 - w) c.tolerance.ensures.value in
     let hides = λ (q : ℕ). c.names_after_lead-hidden.ensures q ∙ ap (λ k. has q (take k (drop 1 names))) count in
-    let same = c.count_without.ensures n c.requires.1 ∙ tally_alike _ (λ q. in_mask c.args.seconds q && not (has q (hidden t w names))) n (λ q _. ap (λ b. in_mask c.args.seconds q && not b) (hides q)) in
+    let same = c.count_without.ensures n c.requires.backers ∙ tally_alike _ (λ q. in_mask c.args.seconds q && not (has q (hidden t w names))) n (λ q _. ap (λ b. in_mask c.args.seconds q && not b) (hides q)) in
     ap (λ k. leb w (2 + k)) same

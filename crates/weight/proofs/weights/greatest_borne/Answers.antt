@@ -12,23 +12,23 @@ pub overflow_add-weight : goal.overflow_add-weight
 overflow_add-weight c = let few = ones-le 16 c.args.seconds c.ranges.seconds.fits in record { fits = omega arith }
 
 pub search-init : goal.search-init
-search-init c = (start _ _ _ _ c.args.seconds c.requires.1.0 c.ranges.seconds.fits, omega arith)
+search-init c = (start _ _ _ _ c.args.seconds c.requires.backers c.ranges.seconds.fits, omega arith)
 
 pub loop-at-init : goal.loop-at-init
 loop-at-init c = none_first _ _ _ _ _ _
 
 pub overflow_cast-at : goal.overflow_cast-at
 overflow_cast-at c =
-    let few = c.requires.0 in
+    let few = c.requires.few in
     let inside = c.loop-at-test.true in
     let bound = per_order_bound c.args.setting.now.size c.args.setting.now.tolerance c.args.setting.now.most in
     record { fits = omega arith }
 
 pub bears_at-requires : goal.bears_at-requires
 bears_at-requires c =
-    let few = c.requires.0 in
+    let few = c.requires.few in
     let inside = c.loop-at-test.true in
-    (seconds_low _ _ _ _ c.args.seconds c.requires.1.0, omega arith)
+    record { backers = seconds_low _ _ _ _ c.args.seconds c.requires.backers; there = omega arith }
 
 pub loop-at-preserved : goal.loop-at-preserved
 loop-at-preserved c =
@@ -49,7 +49,7 @@ pub returns-after-search : goal.returns-after-search
 returns-after-search c =
     let end = c.search-test.false in
     let two : c.search.weight ≡ 2 = omega arith in
-    record { reached = rw two (bears_two _ _ _ _ c.args.seconds c.requires.1.0 c.ranges.seconds.fits c.requires.1.1); most = c.search.invariant.0 }
+    record { reached = rw two (bears_two _ _ _ _ c.args.seconds c.requires.backers c.ranges.seconds.fits c.requires.some); most = c.search.invariant.0 }
 
 pub returns-then-bears_at : goal.returns-then-bears_at
 returns-then-bears_at c =

@@ -6,7 +6,7 @@ use Rattle.order.proofs.rankings.RankedChoice.choose.Goals.{then-codes-code-eq1+
 
 pub is_before-requires : goal.is_before-requires
 is_before-requires c =
-    (c.loop-code-test.true, best_low _ _ _ _ c.loop-code.auto.code-end (best_so_far _ _ _ _ c.loop-code.invariant))
+    record { code = c.loop-code-test.true; best = best_low _ _ _ _ c.loop-code.auto.code-end (best_so_far _ _ _ _ c.loop-code.invariant) }
 
 pub loop-code-preserved : goal.loop-code-preserved
 loop-code-preserved c =

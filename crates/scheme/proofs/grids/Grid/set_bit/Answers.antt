@@ -13,7 +13,7 @@ invariant_of-self c =
     let one : g.signed + 1 ≡ suc g.signed = omega arith in
     record {
       few = g.few;
-      tallied = one ∙ ap suc g.tallied ∙ sym (tally_set g.bits _ g.count c.args.place c.requires.0 c.requires.1 (λ q. word_set g.bits c.args.place q word));
+      tallied = one ∙ ap suc g.tallied ∙ sym (tally_set g.bits _ g.count c.args.place c.requires.below c.requires.unset (λ q. word_set g.bits c.args.place q word));
     }
 
 pub returns : goal.returns
