@@ -5,8 +5,9 @@ usage: tools/respell.py        at the top of the repository, once, after the too
 
 It renames definitions, lemmas, fields and constructors of crates/*/specs and crates/*/proofs, and the few
 local names below, wherever a file of these folders or a clause of src/ writes them: a dash or a capital inside
-a name becomes `_`, and a folder of lemmas gets a capital. A dash stays where it joins two functions, as in `has-take`. Names of Rust code, of goals and
-of the library stay as they are. A name that would fall together with another is reported, and nothing is written.
+a name becomes `_`, and a folder of lemmas gets a capital. A dash stays where it joins two functions, as in
+`has-take`. Names of Rust code, of goals and of the library stay as they are. A name that would fall together
+with another is reported, and nothing is written.
 """
 import glob
 import os
