@@ -4,7 +4,7 @@
 --   quoted     the round, or the first rule that n, t and c break
 --   Breaks     the number and the position of the first rule that is broken, and by what: 21 looks at n, 22 at t, 14 at c
 --   Lawful     what a plant may rely on of an answer, in plain arithmetic
-use Rattle.std.specs.Prelude.{◌≡◌, ℕ, ◌+◌, ◌-◌, ◌<◌, ◌≤◌, max, Bool, cond, ◌&&◌, ◌⊎◌, Some, None, Ok, Err, Option, Result, nat_le}
+use Rattle.std.specs.Prelude.{◌≡◌, ℕ, ◌+◌, ◌-◌, ◌<◌, ◌≤◌, max, Bool, if◌then◌else◌, ◌&&◌, ◌⊎◌, Some, None, Ok, Err, Option, Result, nat_le}
 use Rattle.setting.specs.declared.refusals.Refusal.{Refusal}
 use Rattle.setting.specs.declared.refusals.Refusal.TheVariants.{SoundCount}
 use Rattle.setting.specs.Settings.{unfit}
@@ -18,7 +18,7 @@ possible n t c = nat_le (n - t) c && nat_le c n
 -- what is answered for c, once n and t have been looked at
 abbrev pub counted : ℕ → ℕ → ℕ → Option Refusal → Result ℕ Refusal
 counted n t c (Some e) = Err e
-counted n t c None = cond (possible n t c) (Ok (round t c)) (Err SoundCount)
+counted n t c None = if possible n t c then Ok (round t c) else Err SoundCount
 
 abbrev pub quoted : ℕ → ℕ → ℕ → Result ℕ Refusal
 quoted n t c = counted n t c (unfit n t)

@@ -2,7 +2,7 @@
 --   sized       a ring has 2 to 12 switches
 --   tolerates   a ring of n switches tolerates 1 to n - 1 faulty ones
 --   unfit       the first of these rules that n and t break, if any
-use Rattle.std.specs.Prelude.{ℕ, Bool, cond, ◌&&◌, Some, None, Option, nat_le, nat_lt}
+use Rattle.std.specs.Prelude.{ℕ, Bool, if◌then◌else◌, ◌&&◌, Some, None, Option, nat_le, nat_lt}
 use Rattle.setting.specs.declared.refusals.Refusal.{Refusal}
 use Rattle.setting.specs.declared.refusals.Refusal.TheVariants.{Size, Tolerance}
 
@@ -13,4 +13,4 @@ abbrev pub tolerates : ℕ → ℕ → Bool
 tolerates n t = nat_le 1 t && nat_lt t n
 
 abbrev pub unfit : ℕ → ℕ → Option Refusal
-unfit n t = cond (sized n) (cond (tolerates n t) None (Some Tolerance)) (Some Size)
+unfit n t = if sized n then (if tolerates n t then None else Some Tolerance) else Some Size

@@ -14,7 +14,7 @@ pub fn quote(size: u32, tolerance: u32, sound: u32) -> Result<u32, Refusal>
     ensures laws { Lawful size tolerance sound result }
 {
     let setting = Setting::new(size, tolerance)?;
-    if sound < setting.size() - setting.tolerance() || setting.size() < sound {
+    if !(setting.size() - setting.tolerance()..=setting.size()).contains(&sound) {
         return Err(Refusal::SoundCount);
     }
     Ok((setting.tolerance() + 3).saturating_sub(sound).max(2))

@@ -1,6 +1,8 @@
 // What is refused before a ring runs.
-ghost use Rattle.std.specs.Prelude.{◌≡◌};
+ghost use Rattle.std.proofs.Common.{rules, arith};
 ghost use Rattle.setting.specs.Refused.{numbered, placed};
+
+use refusal::Numbered;
 
 /// The first rule that a size, a tolerance or a number of sound switches breaks.
 #[derive(Clone, Copy, Debug, PartialEq, Eq)]
@@ -13,10 +15,14 @@ pub enum Refusal {
     SoundCount,
 }
 
-impl Refusal {
-    pub fn number(self) -> u32
-        ensures { result ≡ numbered self }
-    {
+impl Numbered for Refusal {
+    ghost numbered = { numbered };
+
+    ghost placed = { placed };
+
+    ghost apart = { Prim.search (rules, arith) };
+
+    fn number(&self) -> u32 {
         match self {
             Refusal::Size => 21,
             Refusal::Tolerance => 22,
@@ -24,10 +30,8 @@ impl Refusal {
         }
     }
 
-    /// The place, from 1, of the name at fault in its list; 0, since none of these is about a list.
-    pub fn position(self) -> u32
-        ensures { result ≡ placed self }
-    {
+    /// None of these is about a list.
+    fn position(&self) -> usize {
         match self {
             Refusal::Size | Refusal::Tolerance | Refusal::SoundCount => 0,
         }

@@ -5,7 +5,7 @@ ghost use Rattle.setting.specs.Settings.{unfit};
 use crate::refusals::Refusal;
 
 /// A ring of 2 to 12 switches that tolerates 1 to n − 1 faulty ones. No other value can be made.
-#[derive(Clone, Copy)]
+#[derive(Clone, Copy, Debug, PartialEq, Eq)]
 pub struct Setting {
     size: u32,
     tolerance: u32,
@@ -20,10 +20,10 @@ impl Setting {
     pub fn new(size: u32, tolerance: u32) -> Result<Setting, Refusal>
         ensures { MatchResult result (λ s. (unfit size tolerance ≡ None) × (s.size ≡ size) × (s.tolerance ≡ tolerance)) (λ e. unfit size tolerance ≡ Some e) }
     {
-        if size < 2 || 12 < size {
+        if !(2..=12).contains(&size) {
             return Err(Refusal::Size);
         }
-        if tolerance < 1 || size <= tolerance {
+        if !(1..size).contains(&tolerance) {
             return Err(Refusal::Tolerance);
         }
         Ok(Setting { size, tolerance })
@@ -32,7 +32,8 @@ impl Setting {
     /// n, the number of switches.
     pub fn size(&self) -> u32
         ensures value { result ≡ self.now.size }
-        ensures bounds { (2 ≤ result) × (result ≤ 12) }
+        ensures least { 2 ≤ result }
+        ensures most { result ≤ 12 }
     {
         self.size
     }
@@ -40,7 +41,8 @@ impl Setting {
     /// t, how many faulty switches the ring tolerates.
     pub fn tolerance(&self) -> u32
         ensures value { result ≡ self.now.tolerance }
-        ensures bounds { (1 ≤ result) × (result < self.now.size) }
+        ensures least { 1 ≤ result }
+        ensures most { result < self.now.size }
     {
         self.tolerance
     }

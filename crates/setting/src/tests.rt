@@ -1,4 +1,5 @@
 use crate::*;
+use refusal::Numbered;
 use std::test::Fail;
 
 #[test]
