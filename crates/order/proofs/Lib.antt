@@ -1,2 +1,3 @@
+mod FirstBits
 mod Places
 mod Values

@@ -5,7 +5,7 @@
 --   beats      a code stands before the best so far, by the table
 --   earliest   of the codes below n that are in a set, the one with the smallest rank
 --   ranked     the same of all sixteen codes
-use Rattle.std.specs.Prelude.{◌≡◌, ℕ, zero, suc, ◌<◌, Bool, true, cond, ◌&&◌, List, length, Some, None, Option, ◌≢◌, nat_lt, slice_index}
+use Rattle.std.specs.Prelude.{◌≡◌, ℕ, zero, suc, ◌<◌, Bool, true, if◌then◌else◌, ◌&&◌, List, length, Some, None, Option, ◌≢◌, nat_lt, slice_index}
 use Rattle.counting.specs.Lists.{distinct}
 use Rattle.order.specs.Sets.{has}
 
@@ -29,7 +29,7 @@ beats ranks c (Some b) = nat_lt (slice_index ranks c) (slice_index ranks b)
 
 abbrev pub earliest : List ℕ → ℕ → ℕ → Option ℕ
 earliest ranks codes zero = None
-earliest ranks codes (suc n) = cond (has codes n && beats ranks n (earliest ranks codes n)) (Some n) (earliest ranks codes n)
+earliest ranks codes (suc n) = if has codes n && beats ranks n (earliest ranks codes n) then Some n else earliest ranks codes n
 
 unfoldable pub ranked : List ℕ → ℕ → Option ℕ
 ranked ranks codes = earliest ranks codes 16

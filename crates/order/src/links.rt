@@ -6,7 +6,7 @@ ghost use Rattle.std.proofs.Common.{rules, arith};
 use crate::kinds::Order;
 
 /// An order to one of the links 0 to 5.
-#[derive(Clone, Copy)]
+#[derive(Clone, Copy, Debug, PartialEq, Eq)]
 pub struct LinkOrder {
     link: u32,
     closed: bool,
@@ -40,7 +40,9 @@ impl LinkOrder {
 }
 
 impl Order for LinkOrder {
-    ghost codes = { 12 };
+    const CODES: u32 = 12;
+
+    ghost CODES = { 12 };
 
     ghost coded = { λ o. link_code o.link o.closed };
 
@@ -51,10 +53,6 @@ impl Order for LinkOrder {
     ghost below = { Prim.search rules };
 
     ghost apart = { Prim.grind (arith, Self.row.coded.inj) };
-
-    fn code_count() -> u32 {
-        12
-    }
 
     fn code(&self) -> u32 {
         2 * self.link + u32::from(self.closed)

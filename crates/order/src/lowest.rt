@@ -6,7 +6,7 @@ ghost use Rattle.order.specs.Masks.{least_member};
 use crate::choices::Choice;
 
 /// Takes the smallest code.
-#[derive(Clone, Copy)]
+#[derive(Clone, Copy, Debug, PartialEq, Eq)]
 pub struct Least;
 
 impl Choice for Least {
@@ -18,11 +18,10 @@ impl Choice for Least {
         ensures value { result ≡ least codes }
         ensures smallest { IfSome result (λ k. (j : ℕ) → has codes j ≡ true → k ≤ j) }
     {
-        for code in 0..16u32 {
-            if codes >> code & 1 == 1 {
-                return Some(code);
-            }
+        if codes == 0 {
+            None
+        } else {
+            Some(codes.trailing_zeros())
         }
-        None
     }
 }

@@ -5,7 +5,7 @@ ghost use Rattle.std.proofs.Common.{rules, arith};
 use crate::kinds::Order;
 
 /// A plan by its number, 0 to 15.
-#[derive(Clone, Copy)]
+#[derive(Clone, Copy, Debug, PartialEq, Eq)]
 pub struct Plan {
     number: u32,
     ghost below: { number < 16 },
@@ -32,7 +32,9 @@ impl Plan {
 }
 
 impl Order for Plan {
-    ghost codes = { 16 };
+    const CODES: u32 = 16;
+
+    ghost CODES = { 16 };
 
     ghost coded = { λ p. p.number };
 
@@ -43,10 +45,6 @@ impl Order for Plan {
     ghost below = { Prim.search rules };
 
     ghost apart = { Prim.grind (arith, Self.row.coded.inj) };
-
-    fn code_count() -> u32 {
-        16
-    }
 
     fn code(&self) -> u32 {
         Plan::number(self)

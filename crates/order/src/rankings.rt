@@ -1,21 +1,27 @@
 // The choice by a plant's own list.
 ghost use Rattle.std.specs.Prelude.{◌≡◌, ℕ, ◌<◌, ◌≤◌, true, length, IfSome, Some, MatchResult, slice_index};
 ghost use Rattle.order.specs.declared.refusals.Refusal.TheVariants as refusal;
-ghost use Rattle.order.specs.Rankings.{EachOnce, Ranks, ranked, beats};
+ghost use Rattle.order.specs.Rankings.{EachOnce, First, Ranks, ranked, beats};
 ghost use Rattle.order.specs.Sets.{has};
 ghost use Rattle.order.specs.Earliest.{ranked_member};
 
 use crate::choices::Choice;
 use crate::refusals::Refusal;
 
-/// The rank of a code that no entry of a list has had.
-const UNLISTED: u8 = 16;
-
 /// Takes the code that stands first in a list of all sixteen.
-#[derive(Clone, Copy)]
+#[derive(Clone, Copy, Debug, PartialEq, Eq)]
 pub struct Ranked {
     /// The place of each code in the list, from 0.
     ranks: [u8; 16],
+}
+
+/// The first place of a code in a list, from 0. Refuses a list that lacks it.
+fn first_place(list: &[u32], code: u32) -> Result<usize, Refusal>
+    requires { code < 16 }
+    ensures { MatchResult result (First list.now code) (λ e. (e ≡ refusal.List) × (EachOnce list.now → ⊥)) }
+{
+    let place = list.iter().position(|listed| *listed == code);
+    place.ok_or(Refusal::List)
 }
 
 impl Ranked {
@@ -26,15 +32,9 @@ impl Ranked {
         if list.len() != 16 {
             return Err(Refusal::List);
         }
-        let mut ranks = [UNLISTED; 16];
-        for (i, code) in list.iter().enumerate() {
-            if *code < 16 && ranks[*code as usize] == UNLISTED {
-                ranks[*code as usize] = i as u8;
-            }
-        }
-        // Sixteen places with all sixteen codes have none twice.
-        if ranks.contains(&UNLISTED) {
-            return Err(Refusal::List);
+        let mut ranks = [0; 16];
+        for (code, rank) in ranks.iter_mut().enumerate() {
+            *rank = first_place(list, code as u32)? as u8;
         }
         Ok(Ranked { ranks })
     }

@@ -1,6 +1,8 @@
 // What is refused when a choice is made.
-ghost use Rattle.std.specs.Prelude.{◌≡◌};
+ghost use Rattle.std.proofs.Common.{rules};
 ghost use Rattle.order.specs.Refused.{numbered, placed};
+
+use refusal::Numbered;
 
 /// Why a choice cannot be made.
 #[derive(Clone, Copy, Debug, PartialEq, Eq)]
@@ -9,19 +11,21 @@ pub enum Refusal {
     List,
 }
 
-impl Refusal {
-    pub fn number(self) -> u32
-        ensures { result ≡ numbered self }
-    {
+impl Numbered for Refusal {
+    ghost numbered = { numbered };
+
+    ghost placed = { placed };
+
+    ghost apart = { Prim.search rules };
+
+    fn number(&self) -> u32 {
         match self {
             Refusal::List => 13,
         }
     }
 
-    /// 0: a list is refused as a whole.
-    pub fn position(self) -> u32
-        ensures { result ≡ placed self }
-    {
+    /// A list is refused as a whole.
+    fn position(&self) -> usize {
         match self {
             Refusal::List => 0,
         }
