@@ -1,7 +1,6 @@
 -- The table of first places of a list, code by code. Assumes nothing.
-use Rattle.std.proofs.Common.{◌≡◌, ℕ, ◌+◌, ◌<◌, true, List, length, get_or, set, sym, ap, ◌∙◌, subst, ⊎_elim, arith, length-set, get_or-set_other, get_or-set_same, Some, None, Option, MatchOption, MatchResult, ◌≢◌, refl}
+use Rattle.std.proofs.Common.{◌≡◌, ℕ, ◌<◌, true, List, length, get_or, sym, ◌∙◌, subst, arith, Some, None, Option, MatchOption, MatchResult, ◌≢◌, refl}
 use Rattle.std.specs.Option.{ok_or}
-use Rattle.std.proofs.lemmas.Bool.{cases_eq}
 use Rattle.counting.specs.Lists.{has}
 use Rattle.counting.proofs.Tallies.{full_distinct, has_at, tally_all}
 use Rattle.order.specs.declared.refusals.Refusal.TheVariants as refusal
@@ -11,20 +10,6 @@ use Rattle.order.specs.Rankings.{EachOnce, First, Ranks}
 pub record Tabled (list ranks : List ℕ) (k : ℕ) : Type 0 where
   pub sixteen : length ranks ≡ 16
   pub first : (c : ℕ) → c < k → First list c (get_or ranks c 0)
-
-pub one_more : (list ranks : List ℕ) (k i : ℕ) → k < 16 → Tabled list ranks k → First list k i → Tabled list (set ranks k i) (k + 1)
-one_more list ranks k i low t found =
-    let long = t.sixteen in
-    record {
-      sixteen = length-set ranks k i ∙ long;
-      first = λ c below.
-          ⊎_elim
-          (λ same.
-          let here : get_or (set ranks k i) c 0 ≡ i = ap (λ n. get_or (set ranks k i) n 0) same ∙ get_or-set_same ranks k i 0 (omega arith) in
-          subst (First list c) (sym here) (subst (λ n. First list n i) (sym same) found))
-          (λ other. subst (First list c) (sym (get_or-set_other ranks k c i 0 other)) (t.first c (omega arith)))
-          (cases_eq c k);
-    }
 
 -- sixteen places with all sixteen codes have none twice
 pub all_placed : (list ranks : List ℕ) (k : ℕ) → length list ≡ 16 → k ≡ 16 → Tabled list ranks k → Ranks list ranks
