@@ -1,34 +1,25 @@
 -- Lemmas: masks by their bits, and the first bit of one. The law of the choice by number order is proved by them. Assumes nothing.
-use Rattle.std.specs.Prelude.{◌≡◌, ℕ, zero, suc, ◌+◌, ◌-◌, ◌*◌, ◌/◌, ◌%◌, ◌^◌, ◌<◌, ◌≤◌, true, false, ◌||◌, ◌⊎◌, Some, None, Option, ◌==◌, ◌≢◌, bit_and, nat_eq, refl}
+use Rattle.std.specs.Prelude.{◌≡◌, ℕ, zero, suc, ◌+◌, ◌/◌, ◌%◌, ◌^◌, ◌<◌, ◌≤◌, true, false, ◌||◌, Some, None, Option, ◌==◌, ◌≢◌, bit_and, nat_eq, refl}
 use Rattle.std.proofs.Math.Path.{sym}
-use Rattle.std.proofs.Common.{ap, subst, ◌∙◌, inl, inr, ⊎_elim, arith}
-use Rattle.std.proofs.Math.Nat.{div-eq_of_lt}
-use Rattle.std.specs.Int.Bits.{bit_or, or_zero_r}
-use Rattle.std.proofs.lemmas.Nat.{shr-shr, shr_below, shl-shr, pow-add, pow_below, and_mask, or_shr, or_mod}
+use Rattle.std.proofs.Common.{ap, subst, ◌∙◌, ⊎_elim, arith}
+use Rattle.std.specs.Int.{bit_at}
+use Rattle.std.specs.Int.Bits.{bit_or}
+use Rattle.std.proofs.lemmas.Nat.{shr_below}
+use Rattle.std.proofs.lemmas.Nat.Bits.{shr_and_one, bit_at-suc, bit_at-zero, same_from_bits_below, bit_at_or, bit_at-lt, bit_at-pow_same, bit_at-pow_other}
 use Rattle.std.proofs.lemmas.Bool.{cases_Bool, cases_eq, cases_lt, cond-true, cond-false, eqb-false, eq-eqb, ne_eqb, or_left}
 use Rattle.order.specs.Sets.{has, Member, lowest, least}
 
 -- what the code tests
 pub bit_tested : (m k : ℕ) → bit_and (m / 2 ^ k) 1 ≡ m / 2 ^ k % 2
-bit_tested m k = and_mask (m / 2 ^ k) 1
+bit_tested m k = shr_and_one m k
 
 pub has_half : (m k : ℕ) → has (m / 2) k ≡ has m (suc k)
-has_half m k = ap (λ n. nat_eq (n % 2) 1) (shr-shr m 1 k ∙ ap (λ j. m / 2 ^ j) (one_more k))
-  where
-    one_more : (k : ℕ) → 1 + k ≡ suc k
-    one_more k = omega arith
+has_half m k = ap (λ x. nat_eq x 1) (sym (bit_at-suc m k))
 
 -- a mask without a bit is empty
 pub no_bits : (n m : ℕ) → m < 2 ^ n → ((k : ℕ) → k < n → has m k ≡ false) → m ≡ 0
-no_bits zero m low none = omega arith
-no_bits (suc n) m low none =
-    let half = no_bits n (m / 2) (shr_below m n 1 (subst (λ j. m < 2 ^ j) (same n) low)) (λ k h. has_half m k ∙ none (suc k) (omega arith)) in
-    let whole : m / 2 ^ 0 ≡ m = omega arith in
-    let even = subst (λ x. x % 2 ≢ 1) whole (eqb-false (m / 2 ^ 0 % 2) 1 (none 0 (omega arith))) in
-    ⊎_elim (λ one. absurd (even (rw one refl))) (λ other. omega arith) (cases_eq m 1)
-  where
-    same : (n : ℕ) → suc n ≡ n + 1
-    same n = omega arith
+no_bits n m low none =
+    same_from_bits_below n m 0 low (omega arith) (λ i h. let less = bit_at-lt m i in let off = eqb-false (bit_at m i) 1 (none i h) in let zero = bit_at-zero i in omega arith)
 
 pub lowest_none : (m k n : ℕ) → lowest m k n ≡ None → (j : ℕ) → k ≤ j → j < k + n → has m j ≡ false
 lowest_none m k zero e j low high = absurd (omega arith)
@@ -98,51 +89,17 @@ pub off_from : (m k : ℕ) → (bit_and (m / 2 ^ k) 1 ≢ 1) → has m k ≡ fal
 off_from m k e = ne_eqb (m / 2 ^ k % 2) 1 (λ is. e (bit_tested m k ∙ is))
 
 -- one bit more in a mask
-pub halves : (x : ℕ) → ((x % 2 ≡ 0) ⊎ (x % 2 ≡ 1))
-halves x = ⊎_elim (λ one. inr one) (λ other. inl (omega arith)) (cases_eq (x % 2) 1)
-
-low_bits : (m n j : ℕ) → bit_or m n / 2 ^ j % 2 ≡ bit_or (m / 2 ^ j % 2) (n / 2 ^ j % 2)
-low_bits m n j = ap (λ x. x % 2) (or_shr m n j) ∙ or_mod (m / 2 ^ j) (n / 2 ^ j) 1
-
-or_one : (x : ℕ) → bit_or (x % 2) 1 ≡ 1
-or_one x = ⊎_elim (λ even. rw even refl) (λ odd. rw odd refl) (halves x)
-
-same_power : (k : ℕ) → 2 ^ k / 2 ^ k % 2 ≡ 1
-same_power k = ap (λ x. x % 2) (ap (λ y. y / 2 ^ k) (sym (one_times k)) ∙ shl-shr 1 k)
-  where
-    one_times : (k : ℕ) → 1 * 2 ^ k ≡ 2 ^ k
-    one_times k = omega arith
-
-other_power : (j k : ℕ) → (j ≢ k) → 2 ^ k / 2 ^ j % 2 ≡ 0
-other_power j k other =
-    ⊎_elim
-    (λ below.
-    let d : k ≡ k - j - 1 + 1 + j = omega arith in
-    let whole : 2 ^ k ≡ 2 ^ (k - j - 1 + 1) * 2 ^ j = ap (λ n. 2 ^ n) d ∙ pow-add 2 (k - j - 1 + 1) j in
-    let half : 2 ^ (k - j - 1 + 1) ≡ 2 ^ (k - j - 1) * 2 ^ 1 = pow-add 2 (k - j - 1) 1 in
-    let parted = ap (λ n. n / 2 ^ j) whole ∙ shl-shr (2 ^ (k - j - 1 + 1)) j ∙ half in
-    ap (λ n. n % 2) parted ∙ omega arith)
-    (λ above.
-    let less = pow_below k j (omega arith) in
-    let none : 2 ^ k / 2 ^ j ≡ 0 = div-eq_of_lt less in
-    ap (λ n. n % 2) none)
-    (cases_lt j k)
-
 pub has-bit_or : (m k j : ℕ) → has (bit_or m (2 ^ k)) j ≡ (j == k || has m j)
 has-bit_or m k j =
     ⊎_elim
-    (λ here.
-    let set = low_bits m (2 ^ k) j ∙ ap (bit_or (m / 2 ^ j % 2)) (ap (λ i. 2 ^ k / 2 ^ i % 2) here ∙ same_power k) ∙ or_one (m / 2 ^ j) in
-    eq-eqb (bit_or m (2 ^ k) / 2 ^ j % 2) 1 set ∙ sym (or_left (j == k) (has m j) (eq-eqb j k here)))
-    (λ other.
-    let kept = low_bits m (2 ^ k) j ∙ ap (bit_or (m / 2 ^ j % 2)) (other_power j k other) ∙ or_zero_r (m / 2 ^ j % 2) in
-    ap (λ x. nat_eq x 1) kept ∙ ap (λ b. b || has m j) (sym (ne_eqb j k other)))
+    (λ here. eq-eqb _ 1 (bit_at_or m (2 ^ k) j ∙ (let one = bit_at-lt m j in let set = subst (λ i. bit_at (2 ^ k) i ≡ 1) (sym here) (bit_at-pow_same k) in omega arith)) ∙ sym (or_left (j == k) (has m j) (eq-eqb j k here)))
+    (λ other. ap (λ x. nat_eq x 1) (bit_at_or m (2 ^ k) j ∙ (let none = bit_at-pow_other k j other in omega arith)) ∙ ap (λ b. b || has m j) (sym (ne_eqb j k other)))
     (cases_eq j k)
 
 -- a mask of one bit
 pub one_bit : (k j : ℕ) → has (2 ^ k) j ≡ (j == k)
 one_bit k j =
     ⊎_elim
-    (λ here. eq-eqb (2 ^ k / 2 ^ j % 2) 1 (ap (λ i. 2 ^ k / 2 ^ i % 2) here ∙ same_power k) ∙ sym (eq-eqb j k here))
-    (λ other. ne_eqb (2 ^ k / 2 ^ j % 2) 1 (λ is. let none = other_power j k other in omega arith) ∙ sym (ne_eqb j k other))
+    (λ here. eq-eqb _ 1 (subst (λ i. bit_at (2 ^ k) i ≡ 1) (sym here) (bit_at-pow_same k)) ∙ sym (eq-eqb j k here))
+    (λ other. ne_eqb _ 1 (λ is. let none = bit_at-pow_other k j other in omega arith) ∙ sym (ne_eqb j k other))
     (cases_eq j k)
