@@ -1,3 +1,4 @@
+mod NameSets
 mod Bounds
 mod Examples
 mod FirstFaults

@@ -258,7 +258,7 @@ code_bound n t code codes low few small =
     omega arith
 
 -- a chain taken apart, as the lead and the rest of the slice
-pub put_together : (names : List ℕ) → 1 ≤ length names → get_or names 0 0 ∷ take (length names - 1) (drop 1 names) ≡ names
+put_together : (names : List ℕ) → 1 ≤ length names → get_or names 0 0 ∷ take (length names - 1) (drop 1 names) ≡ names
 put_together [] some = absurd (omega arith)
 put_together (x ∷ xs) some = ap (λ l. x ∷ l) (take_all (length (x ∷ xs) - 1) xs (omega arith))
 
@@ -266,11 +266,14 @@ module _ (n t lead : ℕ) (names : List ℕ) (p : Proper n t lead names) where
   pub some_names : 1 ≤ length names
   some_names = let l = ap length p.split in omega arith
 
-  pub taken_apart : Proper n t (get_or names 0 0) (get_or names 0 0 ∷ take (length names - 1) (drop 1 names))
-  taken_apart =
+  -- the lead and the others are the whole chain
+  pub lead_and_rest : lead ∷ take (length names - 1) (drop 1 names) ≡ names
+  lead_and_rest =
       let first : get_or names 0 0 ≡ lead = ap (λ l. get_or l 0 0) p.split in
-      let whole = put_together names some_names in
-      subst (λ z. Proper n t z (get_or names 0 0 ∷ take (length names - 1) (drop 1 names))) (sym first) (subst (Proper n t lead) (sym whole) p)
+      ap (λ z. z ∷ take (length names - 1) (drop 1 names)) (sym first) ∙ put_together names some_names
+
+  pub taken_apart : Proper n t lead (lead ∷ take (length names - 1) (drop 1 names))
+  taken_apart = subst (Proper n t lead) (sym lead_and_rest) p
 
   pub within_bound : n ≤ 12 → within n names ≤ 108505112
   within_bound few = let w = within_all n t lead names p in let s = shorter_low (n - 1) (t + 1) (omega arith) in omega arith

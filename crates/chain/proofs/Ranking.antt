@@ -1,25 +1,23 @@
 -- The rank of names as they are read, digit by digit. Assumes nothing.
-use Rattle.std.proofs.Common.{◌≡◌, ℕ, ◌+◌, ◌-◌, ◌*◌, ◌%◌, ◌^◌, ◌<◌, ◌≤◌, true, not, ◌||◌, eqb, List, [], ◌∷◌, length, get_or, drop, sym, refl, ap, ◌∙◌, subst, mul_assoc, add-mul, zero-mul, mul-one, le-mul_of_pos_right, arith}
-use mathlib.Core.Bool.{or-false}
-use lib.Bits.{bit_or, or_lt}
-use Rattle.std.proofs.lemmas.Nat.{one_shl, pow_below}
+use Rattle.std.proofs.Common.{◌≡◌, ℕ, ◌+◌, ◌-◌, ◌*◌, ◌^◌, ◌<◌, ◌≤◌, true, not, ◌&&◌, ◌||◌, eqb, ltb, List, [], ◌∷◌, length, get_or, drop, sym, refl, ap, ◌∙◌, subst, mul_assoc, add-mul, zero-mul, mul-one, le-mul_of_pos_right, arith}
 use Rattle.std.proofs.lemmas.List.{at_drop_more, at_drop_all}
+use Rattle.std.proofs.lemmas.Bool.{and_from, lt-ltb}
 use Rattle.counting.specs.Lists.{has, tally}
 use Rattle.counting.proofs.Tallies.{tally_alike}
-use Rattle.order.specs.Sets.{has as in_mask}
-use Rattle.order.specs.Masks.{has-bit_or, one_bit}
+use Rattle.chain.specs.declared.name_sets.NameSet.{NameSet}
 use Rattle.chain.specs.Chains.{Proper}
+use Rattle.chain.specs.NameSets.{in_set}
 use Rattle.chain.specs.Ranks.{ways, is_new, rank}
 use Rattle.chain.proofs.Bounds.{ways_low}
 use Rattle.chain.proofs.FirstFaults.{Good}
+use Rattle.chain.proofs.NameSets.{all_low}
 use Rattle.chain.proofs.Numbering.{new_names, lead_low}
 use Rattle.chain.proofs.Ranks.{tally_passes, fewer_new, head_low, head_new, rest_good, rank_below}
 
 -- i names were read: `done` is the number that their digits make, and the names from there on have the rest of the rank
-pub record Ranking (n lead : ℕ) (rest : List ℕ) (i seen free done : ℕ) : Type 0 where
+pub record Ranking (n lead : ℕ) (rest : List ℕ) (i : ℕ) (seen : NameSet) (free done : ℕ) : Type 0 where
   pub before : List ℕ
-  pub mask : (q : ℕ) → in_mask seen q ≡ has q before
-  pub narrow : seen < 2 ^ 16
+  pub set : (q : ℕ) → in_set seen q ≡ has q before
   pub free_is : free ≡ tally (is_new before) n
   pub good : Good n before (drop i rest)
   pub same : done * ways free (length (drop i rest)) + rank free before (drop i rest) ≡ rank (n - 1) (lead ∷ []) rest
@@ -32,21 +30,19 @@ module _ (n t lead : ℕ) (rest : List ℕ) (p : Proper n t lead (lead ∷ rest)
   rest_new : Good n (lead ∷ []) rest
   rest_new = rest_good n [] lead rest (record { low = p.within; apart = p.apart; new = λ y _. refl })
 
-  pub ranking_none : Ranking n lead rest 0 ((1 * 2 ^ lead) % 2 ^ 16) (n - 1) 0
-  ranking_none =
+  pub ranking_none : (seen : NameSet) → ((q : ℕ) → in_set seen q ≡ (ltb q 16 && has q (lead ∷ []))) → Ranking n lead rest 0 seen (n - 1) 0
+  ranking_none seen of =
       let l = lead_is_low in
-      let bit = one_shl lead 16 (omega arith) in
       record {
         before = lead ∷ [];
-        mask = λ q. ap (λ b. in_mask b q) bit ∙ one_bit lead q ∙ sym (or-false (eqb q lead));
-        narrow = subst (λ b. b < 2 ^ 16) (sym bit) (pow_below lead 16 (omega arith));
+        set = λ q. of q ∙ all_low (lead ∷ []) q (and_from _ _ (lt-ltb lead 16 (omega arith)) refl);
         free_is = new_names n lead l;
         good = rest_new;
         same = let z = zero-mul (ways (n - 1) (length rest)) in omega arith;
         low = let b = rank_below n (n - 1) (lead ∷ []) rest (new_names n lead l) rest_new in let w = ways_low (n - 1) (length rest) (omega arith) in omega arith;
       }
 
-module _ (n lead : ℕ) (rest : List ℕ) (i seen free done : ℕ) (s : Ranking n lead rest i seen free done) (on : i < length rest) where
+module _ (n lead : ℕ) (rest : List ℕ) (i : ℕ) (seen : NameSet) (free done : ℕ) (s : Ranking n lead rest i seen free done) (on : i < length rest) where
   left : Good n s.before (get_or rest i 0 ∷ drop (i + 1) rest)
   left = subst (Good n s.before) (at_drop_more (λ l. l) rest i 0 on) s.good
 
@@ -62,8 +58,8 @@ module _ (n lead : ℕ) (rest : List ℕ) (i seen free done : ℕ) (s : Ranking 
   fewer : free - 1 ≡ tally (is_new (get_or rest i 0 ∷ s.before)) n
   fewer = fewer_new n free s.before (get_or rest i 0) s.free_is name_low name_new
 
-  digit_is : tally (λ q. not (in_mask seen q)) (get_or rest i 0) ≡ tally (is_new s.before) (get_or rest i 0)
-  digit_is = tally_alike _ _ (get_or rest i 0) (λ q _. ap not (s.mask q))
+  digit_is : tally (λ q. not (in_set seen q)) (get_or rest i 0) ≡ tally (is_new s.before) (get_or rest i 0)
+  digit_is = tally_alike _ _ (get_or rest i 0) (λ q _. ap not (s.set q))
 
   pub free_some : 1 ≤ free
   free_some =
@@ -71,7 +67,7 @@ module _ (n lead : ℕ) (rest : List ℕ) (i seen free done : ℕ) (s : Ranking 
       let f = s.free_is in
       omega arith
 
-  module _ (digit : ℕ) (is : digit ≡ tally (λ q. not (in_mask seen q)) (get_or rest i 0)) where
+  module _ (digit : ℕ) (is : digit ≡ tally (λ q. not (in_set seen q)) (get_or rest i 0)) where
     next_same : (done * free + digit) * ways (free - 1) (length (drop (i + 1) rest)) + rank (free - 1) (get_or rest i 0 ∷ s.before) (drop (i + 1) rest) ≡ rank (n - 1) (lead ∷ []) rest
     next_same =
         let w = ways (free - 1) (length (drop (i + 1) rest)) in
@@ -93,22 +89,20 @@ module _ (n lead : ℕ) (rest : List ℕ) (i seen free done : ℕ) (s : Ranking 
         let l = s.low in
         omega arith
 
-    pub next_ranking : n ≤ 12 → Ranking n lead rest (i + 1) (bit_or seen ((1 * 2 ^ get_or rest i 0) % 2 ^ 16)) (free - 1) (done * free + digit)
-    next_ranking few =
+    pub next_ranking : (seen' : NameSet) → n ≤ 12 → (get_or rest i 0 < 16 → (q : ℕ) → in_set seen' q ≡ (eqb q (get_or rest i 0) || in_set seen q)) → Ranking n lead rest (i + 1) seen' (free - 1) (done * free + digit)
+    next_ranking seen' few put =
         let x = get_or rest i 0 in
         let l = name_low in
-        let bit = one_shl x 16 (omega arith) in
         record {
           before = x ∷ s.before;
-          mask = λ q. ap (λ b. in_mask (bit_or seen b) q) bit ∙ has-bit_or seen x q ∙ ap (λ b. eqb q x || b) (s.mask q);
-          narrow = subst (λ b. bit_or seen b < 2 ^ 16) (sym bit) (or_lt 16 seen (2 ^ x) s.narrow (pow_below x 16 (omega arith)));
+          set = λ q. put (omega arith) q ∙ ap (λ b. eqb q x || b) (s.set q);
           free_is = fewer;
           good = later;
           same = next_same;
           low = s.low;
         }
 
-pub ranked_all : (n lead : ℕ) (rest : List ℕ) (i seen free done : ℕ) → Ranking n lead rest i seen free done → length rest ≤ i → done ≡ rank (n - 1) (lead ∷ []) rest
+pub ranked_all : (n lead : ℕ) (rest : List ℕ) (i : ℕ) (seen : NameSet) (free done : ℕ) → Ranking n lead rest i seen free done → length rest ≤ i → done ≡ rank (n - 1) (lead ∷ []) rest
 ranked_all n lead rest i seen free done s end =
     let whole = sym (at_drop_all (λ l. done * ways free (length l) + rank free s.before l) rest i end) ∙ s.same in
     let m = mul-one done in

@@ -6,7 +6,7 @@
 --   rank      how many lists of as many new names stand before this one in a dictionary, where `free` names are new
 --   spelled   the k new names of a rank
 --   sooner    a list of names stands before another of as many names in a dictionary, names compared as numbers
-use Rattle.std.specs.Prelude.{ℕ, zero, suc, ◌+◌, ◌-◌, ◌*◌, ◌/◌, ◌%◌, Bool, false, cond, not, ◌&&◌, ◌||◌, List, [], ◌∷◌, length, ◌==◌, nat_lt}
+use Rattle.std.specs.Prelude.{ℕ, zero, suc, ◌+◌, ◌-◌, ◌*◌, ◌/◌, ◌%◌, Bool, false, if◌then◌else◌, not, ◌&&◌, ◌||◌, List, [], ◌∷◌, length, ◌==◌, nat_lt}
 use Rattle.counting.specs.Lists.{has, tally}
 
 abbrev pub ways : (free k : ℕ) → ℕ
@@ -22,7 +22,7 @@ is_new before q = not (has q before)
 
 abbrev pub nth : (ℕ → Bool) → (n d : ℕ) → ℕ
 nth f zero d = 0
-nth f (suc n) d = cond (f n && tally f n == d) n (nth f n d)
+nth f (suc n) d = if f n && tally f n == d then n else nth f n d
 
 abbrev pub rank : (free : ℕ) → List ℕ → List ℕ → ℕ
 rank free before [] = 0

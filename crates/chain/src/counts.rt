@@ -1,6 +1,7 @@
 // How many proper chains there are.
 ghost use Rattle.std.specs.Prelude.{◌≡◌, ℕ, ◌+◌, ◌≤◌};
-ghost use Rattle.chain.specs.Places.{per_order, Places};
+ghost use Rattle.chain.specs.OfRing.{many};
+ghost use Rattle.chain.specs.Places.{Places};
 ghost use Rattle.chain.specs.Ranks.{shorter};
 
 use setting::Setting;
@@ -22,8 +23,9 @@ pub(crate) fn count_shorter(others: u32, count: u32) -> u32
 
 /// N, the number of proper chains of one order.
 pub fn chains_per_order(setting: &Setting) -> u32
-    ensures value { result ≡ per_order setting.now.size setting.now.tolerance }
-    ensures bound { (1 ≤ result) × (result ≤ 108505112) }
+    ensures value { result ≡ many setting.now }
+    ensures some { 1 ≤ result }
+    ensures most { result ≤ 108505112 }
     ensures places { (lead : ℕ) → Places setting.now.size setting.now.tolerance lead }
 {
     count_shorter(setting.size() - 1, setting.tolerance() + 1)

@@ -4,16 +4,16 @@
 mod chains;
 mod counts;
 mod lists;
+mod name_sets;
 mod names;
 mod places;
 mod refusals;
 mod spans;
 
-pub use chains::{chain_at, names_at};
+pub use chains::Chains;
 pub use counts::chains_per_order;
 pub use lists::Names;
-pub use names::check_names;
-pub use places::place;
+pub use name_sets::NameSet;
 pub use refusals::Refusal;
 pub use spans::{Span, span_of};
 

@@ -1,17 +1,60 @@
 // The names of a chain as a value of their own.
-ghost use Rattle.std.specs.Prelude.{◌≡◌, ◌≤◌, take};
+ghost use Rattle.std.specs.Prelude.{◌≡◌, ◌+◌, ◌<◌, ◌≤◌, true, [], ◌∷◌, ◌++◌, length};
+ghost use Rattle.counting.specs.Lists.{below};
 
-/// The names of a chain, the lead's first. They are kept inside, so no memory is asked for.
-#[derive(Clone, Copy)]
+use std::marker::Model;
+
+/// The names of a chain, the lead's first, each below 12. They are kept inside, so no memory is asked for.
+#[derive(Clone, Copy, Debug, PartialEq, Eq)]
 pub struct Names {
-    pub(crate) list: [u32; 12],
-    pub(crate) count: usize,
-    ghost few: { count ≤ 12 },
+    /// The names, and zeros after them.
+    list: [u32; 12],
+    count: usize,
+}
+
+impl Model for Names {
+    ghost use Rattle.std.specs.Prelude.{◌≡◌, ◌-◌, ◌≤◌, ℕ, true, List, ◌++◌, length, take, drop, replicate};
+    ghost use Rattle.std.proofs.Common.{arith, ap, sym, ◌∙◌, take-append-drop, length-take-le};
+    ghost use Rattle.counting.specs.Lists.{below};
+
+    ghost Value = { List ℕ };
+
+    ghost view = { λ s. take s.count s.list };
+
+    ghost invariant = { λ s. (s.count ≤ 12) × (length s.list ≡ 12) × (drop s.count s.list ≡ replicate (12 - s.count) 0) × (below 12 (take s.count s.list) ≡ true) };
+
+    ghost inverse = { λ names. record { list = names ++ replicate (12 - length names) 0; count = length names } };
+
+    ghost inverse_ok = { λ s h i. record {
+      list = (ap (λ n. take s.count s.list ++ replicate (12 - n) 0) (λ k. length-take-le s.count s.list (omega (arith, h.0, h.1)) k) ∙ ap (λ zeros. take s.count s.list ++ zeros) (sym h.2) ∙ (λ k. take-append-drop s.count s.list k)) i;
+      count = length-take-le s.count s.list (omega (arith, h.0, h.1)) i;
+    } };
 }
 
 impl Names {
+    /// The chain of the lead alone.
+    pub(crate) fn of_lead(lead: u32) -> Names
+        requires { lead < 12 }
+        ensures { result ≡ lead ∷ [] }
+    {
+        let mut list = [0; 12];
+        list[0] = lead;
+        Names { list, count: 1 }
+    }
+
+    pub(crate) fn push(&mut self, name: u32)
+        requires room { length self.old < 12 }
+        requires low { name < 12 }
+        ensures { self.new ≡ self.old ++ name ∷ [] }
+    {
+        self.list[self.count] = name;
+        self.count += 1;
+    }
+
     pub fn as_slice(&self) -> &[u32]
-        ensures { result.now ≡ take self.now.count self.now.list }
+        ensures value { result.now ≡ self.now }
+        ensures short { length result.now ≤ 12 }
+        ensures low { below 12 result.now ≡ true }
     {
         &self.list[..self.count]
     }

@@ -1,6 +1,8 @@
 // What is refused of a chain's names.
-ghost use Rattle.std.specs.Prelude.{◌≡◌};
+ghost use Rattle.std.proofs.Common.{rules};
 ghost use Rattle.chain.specs.Refused.{numbered, placed};
+
+use refusal::Numbered;
 
 /// The first fault of a chain's names. A place in the list of names counts from 1.
 #[derive(Clone, Copy, Debug, PartialEq, Eq)]
@@ -15,10 +17,14 @@ pub enum Refusal {
     Repeated(u32),
 }
 
-impl Refusal {
-    pub fn number(self) -> u32
-        ensures { result ≡ numbered self }
-    {
+impl Numbered for Refusal {
+    ghost numbered = { numbered };
+
+    ghost placed = { placed };
+
+    ghost apart = { Prim.search rules };
+
+    fn number(&self) -> u32 {
         match self {
             Refusal::Length => 31,
             Refusal::Beyond(_) => 32,
@@ -28,12 +34,10 @@ impl Refusal {
     }
 
     /// The place of the name at fault; 0 where the number of names is at fault.
-    pub fn position(self) -> u32
-        ensures { result ≡ placed self }
-    {
+    fn position(&self) -> usize {
         match self {
             Refusal::Length => 0,
-            Refusal::Beyond(place) | Refusal::Repeated(place) => place,
+            Refusal::Beyond(place) | Refusal::Repeated(place) => *place as usize,
             Refusal::NotLead => 1,
         }
     }

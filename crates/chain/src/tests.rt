@@ -1,24 +1,27 @@
 use crate::*;
 use order::Plan;
+use refusal::Numbered;
 use setting::Setting;
 use std::process::Abort;
 use std::test::Fail;
 
+/// The chains of a ring of four that tolerates two faults.
+fn chains_in_four(lead: u32) -> Result<Chains, Fail> {
+    match Setting::new(4, 2) {
+        Ok(setting) => Ok(Chains { setting, lead }),
+        Err(_) => Err(Fail::new("a ring of four")),
+    }
+}
+
 #[test]
 fn names_are_checked_from_the_first(rt: HostRuntime) -> Result<(), Fail> {
-    let ring = Setting::new(4, 2).ok();
-    let Some(ring) = ring else {
-        return Err(Fail::new("a ring of four"));
-    };
-    assert_eq!(rt; check_names(&ring, 0, &[0, 2, 1]), Ok(()));
-    assert_eq!(rt; check_names(&ring, 0, &[]), Err(Refusal::Length));
-    assert_eq!(rt; check_names(&ring, 0, &[0, 1, 2, 3]), Err(Refusal::Length));
-    assert_eq!(rt; check_names(&ring, 0, &[0, 4, 0]), Err(Refusal::Beyond(2)));
-    assert_eq!(rt; check_names(&ring, 0, &[1, 4, 1]), Err(Refusal::NotLead));
-    assert_eq!(rt;
-        check_names(&ring, 0, &[0, 3, 3]),
-        Err(Refusal::Repeated(3))
-    );
+    let chains = chains_in_four(0)?;
+    assert_eq!(rt; chains.check(&[0, 2, 1]), Ok(()));
+    assert_eq!(rt; chains.check(&[]), Err(Refusal::Length));
+    assert_eq!(rt; chains.check(&[0, 1, 2, 3]), Err(Refusal::Length));
+    assert_eq!(rt; chains.check(&[0, 4, 0]), Err(Refusal::Beyond(2)));
+    assert_eq!(rt; chains.check(&[1, 4, 1]), Err(Refusal::NotLead));
+    assert_eq!(rt; chains.check(&[0, 3, 3]), Err(Refusal::Repeated(3)));
     assert_eq!(rt; Refusal::Repeated(3).position(), 3);
     Ok(())
 }
@@ -32,13 +35,10 @@ fn chains_of_ring(size: u32, tolerance: u32) -> Result<u32, Fail> {
 
 /// The place of a chain in a ring of four that tolerates two faults.
 fn place_in_four(lead: u32, plan: u32, names: &[u32]) -> Result<Result<u32, Refusal>, Fail> {
-    let Some(ring) = Setting::new(4, 2).ok() else {
-        return Err(Fail::new("a ring of four"));
-    };
     let Some(plan) = Plan::new(plan) else {
         return Err(Fail::new("a plan"));
     };
-    Ok(place(&ring, lead, &plan, names))
+    Ok(chains_in_four(lead)?.place(&plan, names))
 }
 
 #[test]
@@ -59,30 +59,38 @@ fn chains_have_places(rt: HostRuntime) -> Result<(), Fail> {
     Ok(())
 }
 
-/// Walks all places of the ring with this lead, and comes back to each.
-fn walk_places(rt: &impl Abort, ring: &Setting, lead: u32) -> Result<(), Fail> {
-    for at in 0..16 * chains_per_order(ring) {
-        let chain: Option<(Plan, Names)> = chain_at(ring, lead, at);
-        let Some(chain) = chain else {
+/// Walks all places of the chains, and comes back to each.
+fn walk_places(rt: &impl Abort, chains: &Chains) -> Result<(), Fail> {
+    for place in 0..16 * chains_per_order(&chains.setting) {
+        let chain: Option<(Plan, Names)> = chains.at(place);
+        let Some((plan, names)) = chain else {
             return Err(Fail::new("a chain of every place"));
         };
-        let (plan, names) = chain;
-        assert_eq!(rt; place(ring, lead, &plan, names.as_slice()), Ok(at));
+        assert_eq!(rt; chains.place(&plan, names.as_slice()), Ok(place));
     }
     Ok(())
 }
 
 #[test]
 fn every_place_leads_back(rt: HostRuntime) -> Result<(), Fail> {
-    let Some(ring) = Setting::new(4, 2).ok() else {
-        return Err(Fail::new("a ring of four"));
-    };
     for lead in 0..4 {
-        walk_places(&rt, &ring, lead)?;
+        walk_places(&rt, &chains_in_four(lead)?)?;
     }
-    let past: Option<(Plan, Names)> = chain_at(&ring, 0, 160);
+    let past: Option<(Plan, Names)> = chains_in_four(0)?.at(160);
     assert!(rt; past.is_none());
-    let outside: Option<(Plan, Names)> = chain_at(&ring, 4, 0);
+    let outside: Option<(Plan, Names)> = chains_in_four(4)?.at(0);
     assert!(rt; outside.is_none());
     Ok(())
+}
+
+#[test]
+fn sets_of_names(rt: HostRuntime) {
+    let mut backers = NameSet::of(&[3, 1, 3, 16]);
+    assert!(rt; backers.contains(3) && !backers.contains(2) && !backers.contains(16));
+    assert_eq!(rt; backers.len(), 2);
+    backers.insert(2);
+    let left = backers.without(NameSet::of(&[1, 2, 5]));
+    assert_eq!(rt; left, NameSet::of(&[3]));
+    assert!(rt; left.without(left).is_empty());
+    assert_eq!(rt; left.union(NameSet::of(&[0])).len(), 2);
 }

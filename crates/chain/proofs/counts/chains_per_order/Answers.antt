@@ -12,4 +12,4 @@ returns c =
     let some = some_chain n t in
     let most = c.args.setting.now.most in
     let few = shorter_low (n - 1) (t + 1) (omega arith) in
-    record { value = value; bound = (omega arith, omega arith); places = places n t }
+    record { value = value; some = omega arith; most = omega arith; places = places n t }

@@ -1,4 +1,4 @@
-use Rattle.std.proofs.Common.{◌≡◌, ◌+◌, ◌-◌, ◌*◌, ◌≤◌, ap, ◌∙◌, arith}
+use Rattle.std.proofs.Common.{rules, ◌≡◌, ◌+◌, ◌-◌, ◌*◌, ◌≤◌, ap, ◌∙◌, arith}
 use Rattle.chain.specs.Places.{per_order}
 use Rattle.chain.specs.Ranks.{shorter}
 use Rattle.chain.proofs.Bounds.{shorter_low}
@@ -23,7 +23,7 @@ overflow_mul-first g c = let l = first_low g c in omega arith
 pub overflow_add-result : goal.overflow_add-result
 overflow_add-result g c =
     let l = first_low g (goal.at.overflow_add-result g c).After-chains_per_order in
-    let few = c.size-others.ensures.bounds.1 in
+    let few = c.size-others.ensures.most in
     let b = shorter_low (c.size-others.result - 1) (c.args.count - 1) (omega arith) in
     let e = c.count_shorter.ensures in
     omega arith
@@ -31,7 +31,7 @@ overflow_add-result g c =
 pub overflow_add-result-2 : goal.overflow_add-result-2
 overflow_add-result-2 g c =
     let l = first_low g (goal.at.overflow_add-result-2 g c).After-chains_per_order in
-    let few = c.size-others.ensures.bounds.1 in
+    let few = c.size-others.ensures.most in
     let b = shorter_low (c.size-others.result - 1) c.args.count (omega arith) in
     let e = c.count_shorter-2.ensures in
     omega arith
@@ -47,11 +47,9 @@ returns g c =
     let high = c.count_shorter-2.ensures ∙ ap (λ z. shorter (z - 1) c.args.count) size in
     let start : c.code.result * c.chains_per_order.result + c.count_shorter.result ≡ code * per_order n t + shorter (n - 1) (c.args.count - 1) = λ k. first k + low k in
     let end : c.code.result * c.chains_per_order.result + c.count_shorter-2.result ≡ code * per_order n t + shorter (n - 1) c.args.count = λ k. first k + high k in
-    let some = c.if-count-lt1.false in
-    let few = c.if-tolerance-count.false in
-    let tolerance = c.tolerance.ensures.value in
+    let inside : (1 ≤ c.args.count) × (c.args.count ≤ t + 1) = search rules in
     record {
       value = (start, end);
-      some = (omega arith, omega arith);
-      spans = λ lead. spans_at n t lead code c.args.count _ _ start end (omega arith) (omega arith);
+      some = inside;
+      spans = λ lead. spans_at n t lead code c.args.count _ _ start end inside.0 inside.1;
     }
