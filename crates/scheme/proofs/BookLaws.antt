@@ -1,5 +1,6 @@
 -- What a book's invariant gives. Assumes nothing.
-use Rattle.std.proofs.Common.{◌≡◌, ℕ, ◌+◌, ◌-◌, ◌<◌, ◌≤◌, true, false, ◌&&◌, eqb, ltb, List, [], ◌∷◌, ◌++◌, length, get_or, take, set, sym, refl, ap, ◌∙◌, subst, arith, length-take-le, get_or-take}
+use Rattle.std.proofs.Common.{◌≡◌, ℕ, ◌+◌, ◌-◌, ◌<◌, ◌≤◌, ◌⊎◌, true, false, ◌&&◌, eqb, ltb, List, [], ◌∷◌, ◌++◌, length, get_or, take, set, sym, refl, ap, ◌∙◌, subst, ⊎_elim, MatchOption, position, Some, None, Option, arith, length-take-le, get_or-take}
+use Rattle.std.specs.Option.{option_eq}
 use Rattle.std.proofs.lemmas.List.{take_more_set}
 use Rattle.std.proofs.lemmas.Bool.{and_left, and_right, and_from, eq-eqb, ne_eqb, lt-ltb, le-ltb, both_ways}
 use Rattle.std.proofs.lemmas.Bool.Decides.{Decides-eqb, same_from_decides, Decides-like}
@@ -11,7 +12,7 @@ use Rattle.scheme.specs.BookLawful.{book_lawful}
 use Rattle.scheme.specs.Books.{marks, fresh, NextLine, Written}
 use Rattle.scheme.specs.Ledgers.{recorded, checks, Signs}
 use Rattle.scheme.specs.Lines.{line_of}
-use Rattle.scheme.proofs.LineNumbers.{line_has, line_at, line_stands, line_push_new, line_push_other}
+use Rattle.scheme.proofs.LineNumbers.{line_has, line_number, line_at, line_stands, line_push_new, line_push_other}
 
 module _ (b : Book) where
   -- the places that are signed
@@ -20,6 +21,10 @@ module _ (b : Book) where
 
   front_long : length front ≡ b.used
   front_long = length-take-le b.used b.lines.now b.within
+
+  -- the mark of a place is one more than the index of its line
+  pub marked : (p : ℕ) (o : Option ℕ) → o ≡ position (λ line. eqb line p) front → MatchOption o (marks b p ≡ 0) (λ i. marks b p ≡ i + 1)
+  marked = line_number front
 
   pub entries_are : b.used ≡ recorded (marks b) b.count
   entries_are =
@@ -49,6 +54,11 @@ module _ (b : Book) where
   check_past p m past =
       let long = front_long in
       sym (and_right _ _ (ne_eqb (marks b p) m (λ e. let to = (line_stands 1 front p m e (omega arith)).to in absurd (omega arith))))
+
+  -- what is read in the line that a mark numbers checks as the ledger does
+  pub checked : (o : Option ℕ) (p m : ℕ) → MatchOption o ((m ≡ 0) ⊎ (b.used < m)) (λ q. (1 ≤ m) × (m ≤ b.used) × (q ≡ get_or b.lines.now (m - 1) 0)) → option_eq eqb o (Some p) ≡ checks (marks b) p m
+  checked None p m h = ⊎_elim (λ none. check_zero p m (omega arith)) (λ past. check_past p m past) h
+  checked (Some q) p m h = rw h.2 (check_in p m h.0 h.1)
 
   -- a place that is not below the count
   pub refuses : (p : ℕ) → b.count ≤ p → Signs b.count (marks b) (marks b) p 0

@@ -1,7 +1,8 @@
 -- The line of a place among lines with different places. Assumes nothing.
-use Rattle.std.proofs.Common.{◌≡◌, ℕ, zero, suc, ◌+◌, ◌-◌, ◌<◌, ◌≤◌, true, false, cond, not, ◌||◌, eqb, ltb, List, [], ◌∷◌, ◌++◌, length, get_or, drop, sym, refl, ap, ◌∙◌, subst, ⊎_elim, arith}
-use Rattle.std.proofs.lemmas.List.{at_drop_more, at_drop_all}
-use Rattle.std.proofs.lemmas.Bool.{cases_Bool, cond-true, cond-false, and_parts, or_parts, eqb-true, eq-eqb, ne_eqb, lt-ltb, le-ltb, not-true, both_ways}
+use Rattle.std.proofs.Common.{◌≡◌, ℕ, zero, suc, ◌+◌, ◌-◌, ◌<◌, ◌≤◌, true, false, cond, not, ◌||◌, eqb, ltb, List, [], ◌∷◌, ◌++◌, length, get_or, add-one, MatchOption, Option, position, sym, refl, ap, ◌∙◌, subst, ⊎_elim, arith}
+use Rattle.std.specs.List.{position_from}
+use Rattle.std.proofs.lemmas.Iterator.Adapters.{position_from-zero}
+use Rattle.std.proofs.lemmas.Bool.{cases_Bool, cases_eq, cond-true, cond-false, and_parts, or_parts, eqb-true, eq-eqb, ne_eqb, lt-ltb, le-ltb, not-true, both_ways}
 use Rattle.counting.specs.Lists.{has, distinct}
 use Rattle.counting.proofs.Tallies.{has_at}
 use Rattle.scheme.specs.BookLawful.{line_none}
@@ -65,15 +66,14 @@ pub line_push_other : (k : ℕ) (xs : List ℕ) (x p : ℕ) → (p ≡ x → ⊥
 line_push_other k [] x p other = cond-false _ _ _ (ne_eqb p x other)
 line_push_other k (y ∷ ys) x p other = ap (λ n. cond (eqb p y) k n) (line_push_other (suc k) ys x p other)
 
--- a scan for a place
-module _ (xs : List ℕ) (p i : ℕ) (so_far : line_of (i + 1) (drop i xs) p ≡ line_of 1 xs p) where
-  pub line_here : i < length xs → get_or xs i 0 ≡ p → i + 1 ≡ line_of 1 xs p
-  line_here on here = sym (at_drop_more (λ l. line_of (i + 1) l p) xs i 0 on ∙ cond-true _ _ _ (eq-eqb p (get_or xs i 0) (sym here))) ∙ so_far
+-- the number of a line is one more than its index
+numbers : (k : ℕ) (xs : List ℕ) (p : ℕ) → MatchOption (position_from (λ x. eqb x p) k xs) (line_of (suc k) xs p ≡ 0) (λ i. line_of (suc k) xs p ≡ i + 1)
+numbers k [] p = refl
+numbers k (x ∷ xs) p =
+    ⊎_elim
+    (λ here. rw (eq-eqb x p here, eq-eqb p x (sym here)) (omega arith))
+    (λ other. rw (ne_eqb x p other, ne_eqb p x (λ e. other (sym e)), add-one k) (numbers (suc k) xs p))
+    (cases_eq x p)
 
-  pub line_on : i < length xs → (get_or xs i 0 ≡ p → ⊥) → line_of (i + 1 + 1) (drop (i + 1) xs) p ≡ line_of 1 xs p
-  line_on on other =
-      let next : i + 1 + 1 ≡ suc (i + 1) = omega arith in
-      ap (λ k. line_of k (drop (i + 1) xs) p) next ∙ sym (at_drop_more (λ l. line_of (i + 1) l p) xs i 0 on ∙ cond-false _ _ _ (ne_eqb p (get_or xs i 0) (λ e. other (sym e)))) ∙ so_far
-
-  pub line_all : length xs ≤ i → 0 ≡ line_of 1 xs p
-  line_all end = sym (at_drop_all (λ l. line_of (i + 1) l p) xs i end) ∙ so_far
+pub line_number : (xs : List ℕ) (p : ℕ) (o : Option ℕ) → o ≡ position (λ x. eqb x p) xs → MatchOption o (line_of 1 xs p ≡ 0) (λ i. line_of 1 xs p ≡ i + 1)
+line_number xs p o is = rw (is, position_from-zero) (numbers 0 xs p)
