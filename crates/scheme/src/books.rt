@@ -69,7 +69,7 @@ impl<'a> Book<'a> {
     }
 
     /// The mark of a place, if it is signed.
-    pub(crate) fn mark_of(&self, place: u32) -> Option<u32>
+    fn mark_of(&self, place: u32) -> Option<u32>
         ensures { MatchOption result (marks self.now place ≡ 0) (λ mark. (marks self.now place ≡ mark) × (1 ≤ mark)) }
     {
         let line = self.line_of(place)?;
@@ -77,7 +77,7 @@ impl<'a> Book<'a> {
     }
 
     /// The place in the line that a mark numbers, if that line is in use.
-    pub(crate) fn place_of(&self, mark: u32) -> Option<u32>
+    fn place_of(&self, mark: u32) -> Option<u32>
         ensures { MatchOption result ((mark ≡ 0) ⊎ (self.now.used < mark)) (λ p. (1 ≤ mark) × (mark ≤ self.now.used) × (p ≡ slice_index self.now.lines.now (mark - 1))) }
     {
         let line = mark.checked_sub(1)?;
@@ -86,7 +86,7 @@ impl<'a> Book<'a> {
 
     /// Writes a place that is not signed into the next line. The places that are signed are different and below the
     /// count, and this is one more of them, so there is a line left.
-    pub(crate) fn write_next(&mut self, place: u32) -> u32
+    fn write_next(&mut self, place: u32) -> u32
         requires below { place < self.old.count }
         requires new { marks self.old place ≡ 0 }
         ensures { NextLine self.old place self.new result }

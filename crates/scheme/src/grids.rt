@@ -10,7 +10,7 @@ use crate::refusals::Refusal;
 mod marking;
 
 /// A bit for each of up to 16,384 places, set once the place is signed. The mark of a place is the place plus 1.
-// A set of bits of std or a port would be a `Vec`, and no scheme has a heap: words of fixed size, with their tally.
+// No library has a set of bits of fixed size, and no scheme has a heap. The tally spares `entries` a pass over the words.
 #[derive(Debug, PartialEq, Eq, Drop)]
 pub struct Grid {
     bits: [u64; 256],
@@ -37,7 +37,7 @@ impl Grid {
     }
 
     /// Whether the bit of a place is set.
-    pub(crate) fn has_bit(&self, place: u32) -> bool
+    fn has_bit(&self, place: u32) -> bool
         requires { place < 16384 }
         ensures { result ≡ bit_at self.now.bits place }
     {
@@ -45,7 +45,7 @@ impl Grid {
     }
 
     /// Sets the bit of a place that is not signed.
-    pub(crate) fn set_bit(&mut self, place: u32)
+    fn set_bit(&mut self, place: u32)
         requires below { place < self.old.count }
         requires unset { bit_at self.old.bits place ≡ false }
         ensures { BitSet self.old place self.new }

@@ -5,4 +5,4 @@ pub returns-then-place-self-clause-signs : goal.returns-then-place-self-clause-s
 returns-then-place-self-clause-signs c = refuses c.args.self.now _ c.if-place-self.true
 
 pub returns-in-None-clause-signs : goal.returns-in-None-clause-signs
-returns-in-None-clause-signs c = signs_next c.args.self.now _ _ _ c.if-place-self.false c.in-None.ensures c.write_next.ensures
+returns-in-None-clause-signs c = signs_next c.args.self.now _ c.if-place-self.false c.in-None.ensures _ _ c.write_next.ensures
