@@ -1,5 +1,5 @@
 // A scheme that keeps the signed places in lines.
-ghost use Rattle.std.specs.Prelude.{◌≡◌, ℕ, ◌+◌, ◌-◌, ◌<◌, ◌≤◌, ◌⊎◌, true, length, take, slice_index, position, ◌==◌, Some, None, MatchOption, MatchResult};
+ghost use Rattle.std.specs.Prelude.{◌≡◌, ℕ, ◌+◌, ◌-◌, ◌<◌, ◌≤◌, ◌⊎◌, true, length, take, slice_index, position, ◌==◌, Some, None, IfOk, MatchOption, MatchResult};
 ghost use Rattle.counting.specs.Lists.{distinct, below};
 ghost use Rattle.scheme.specs.Counts.{unfit};
 
@@ -27,7 +27,9 @@ impl<'a> Book<'a> {
 
     /// A scheme of `count` places with none signed, over lines that may hold anything. No line is written.
     pub fn new(lines: &'a mut [u32], count: u32) -> Result<Book<'a>, Refusal>
-        ensures { MatchResult result (λ b. (unfit count (length lines.old) ≡ None) × (b.count ≡ count) × (b.used ≡ 0) × (b.lines.now ≡ lines.old)) (λ e. unfit count (length lines.old) ≡ Some e) }
+        ensures cases { MatchResult result (λ _. unfit count (length lines.old) ≡ None) (λ e. unfit count (length lines.old) ≡ Some e) }
+        ensures empty { IfOk result (λ book. (book.count ≡ count) × (book.used ≡ 0)) }
+        ensures lines { IfOk result (λ book. book.lines.now ≡ lines.old) }
     {
         check_fit(count, lines.len())?;
         Ok(Book {
