@@ -1,6 +1,8 @@
 // What is refused when a scheme is made.
-ghost use Rattle.std.specs.Prelude.{◌≡◌};
+ghost use Rattle.std.proofs.Common.{rules, arith};
 ghost use Rattle.scheme.specs.Refused.{numbered, placed};
+
+use refusal::Numbered;
 
 /// Why a scheme cannot be made.
 #[derive(Clone, Copy, Debug, PartialEq, Eq)]
@@ -11,20 +13,22 @@ pub enum Refusal {
     Lines,
 }
 
-impl Refusal {
-    pub fn number(self) -> u32
-        ensures { result ≡ numbered self }
-    {
+impl Numbered for Refusal {
+    ghost numbered = { numbered };
+
+    ghost placed = { placed };
+
+    ghost apart = { Prim.search (rules, arith) };
+
+    fn number(&self) -> u32 {
         match self {
             Refusal::Count => 11,
             Refusal::Lines => 12,
         }
     }
 
-    /// 0: none of these is about a list.
-    pub fn position(self) -> u32
-        ensures { result ≡ placed self }
-    {
+    /// None of these is about a list.
+    fn position(&self) -> usize {
         match self {
             Refusal::Count | Refusal::Lines => 0,
         }

@@ -1,4 +1,5 @@
 use crate::*;
+use refusal::Numbered;
 use std::test::Fail;
 
 #[test]
@@ -14,6 +15,19 @@ fn a_book_numbers_its_lines(rt: HostRuntime) {
     assert_eq!(rt; book.sign(4), 0);
     assert!(rt; book.check(0, 2) && !book.check(0, 1));
     assert_eq!(rt; book.entries(), 2);
+}
+
+#[test]
+fn a_book_is_made_in_one_step(rt: HostRuntime) -> Result<(), Fail> {
+    let mut lines = [7; 4];
+    assert_eq!(rt; Book::new(&mut lines, 0).err(), Some(Refusal::Count));
+    assert_eq!(rt; Book::new(&mut lines, 5).err(), Some(Refusal::Lines));
+    let mut book = Book::new(&mut lines, 4)?;
+    assert_eq!(rt; (book.count(), book.entries()), (4, 0));
+    assert_eq!(rt; book.sign(3), 1);
+    assert!(rt; book.check(3, 1) && !book.check(7, 2));
+    assert_eq!(rt; Refusal::Lines.number(), 12);
+    Ok(())
 }
 
 #[test]

@@ -23,10 +23,7 @@ impl Scheme for Book<'_> {
     }
 
     fn check(&self, place: u32, mark: u32) -> bool {
-        if mark == 0 || self.used < mark {
-            return false;
-        }
-        self.lines[mark as usize - 1] == place
+        self.place_of(mark) == Some(place)
     }
 
     fn sign(&mut self, place: u32) -> u32
@@ -37,10 +34,9 @@ impl Scheme for Book<'_> {
         if place >= self.count {
             return 0;
         }
-        let mark = self.line_of(place);
-        if mark > 0 {
-            return mark;
+        match self.mark_of(place) {
+            Some(mark) => mark,
+            None => self.write_next(place),
         }
-        self.write_next(place)
     }
 }

@@ -1,20 +1,8 @@
-use Rattle.std.proofs.Common.{◌≡◌, refl, arith}
-use Rattle.scheme.proofs.BookLaws.{refuses, signs_next, writes_none, writes_next, stale_outside}
-use Rattle.scheme.specs.Books.{marks}
+use Rattle.scheme.proofs.BookLaws.{refuses, signs_next}
 use Rattle.scheme.proofs.books.signing.BookScheme.sign.Goals as goal
 
-pub returns-then-place-self : goal.returns-then-place-self
-returns-then-place-self c =
-    let b = c.args.self.now in
-    record { signs = refuses b _ c.if-place-self.true; count = refl; line = writes_none b _ _ (stale_outside b _ c.if-place-self.true) }
+pub returns-then-place-self-clause-signs : goal.returns-then-place-self-clause-signs
+returns-then-place-self-clause-signs c = refuses c.args.self.now _ c.if-place-self.true
 
-pub returns : goal.returns
-returns c =
-    let b = c.args.self.now in
-    let none : marks b c.args.place ≡ 0 = let is = c.line_of-mark.ensures in let low = c.if-mark-gt0.false in omega arith in
-    let next = c.write_next.ensures in
-    record {
-      signs = signs_next b _ _ _ c.if-place-self.false none next;
-      count = next.count;
-      line = writes_next b _ _ _ c.if-place-self.false none next;
-    }
+pub returns-in-None-clause-signs : goal.returns-in-None-clause-signs
+returns-in-None-clause-signs c = signs_next c.args.self.now _ c.if-place-self.false c.in-None.ensures _ _ c.write_next.ensures
