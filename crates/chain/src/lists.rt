@@ -1,10 +1,9 @@
 // The names of a chain as a value of their own.
-ghost use Rattle.std.specs.Prelude.{◌≡◌, ◌+◌, ◌<◌, ◌≤◌, true, [], ◌∷◌, ◌++◌, length};
-ghost use Rattle.counting.specs.Lists.{below};
+ghost use Rattle.std.specs.Prelude.{◌≡◌, ◌+◌, ◌<◌, ◌≤◌, [], ◌∷◌, ◌++◌, length};
 
 use std::marker::Model;
 
-/// The names of a chain, the lead's first, each below 12. They are kept inside, so no memory is asked for.
+/// The names of a chain, the lead's first. They are kept inside, so no memory is asked for.
 #[derive(Clone, Copy, Debug, PartialEq, Eq)]
 pub struct Names {
     /// The names, and zeros after them.
@@ -13,15 +12,14 @@ pub struct Names {
 }
 
 impl Model for Names {
-    ghost use Rattle.std.specs.Prelude.{◌≡◌, ◌-◌, ◌≤◌, ℕ, true, List, ◌++◌, length, take, drop, replicate};
+    ghost use Rattle.std.specs.Prelude.{◌≡◌, ◌-◌, ◌≤◌, ℕ, List, ◌++◌, length, take, drop, replicate};
     ghost use Rattle.std.proofs.Common.{arith, ap, sym, ◌∙◌, take-append-drop, length-take-le};
-    ghost use Rattle.counting.specs.Lists.{below};
 
     ghost Value = { List ℕ };
 
     ghost view = { λ s. take s.count s.list };
 
-    ghost invariant = { λ s. (s.count ≤ 12) × (length s.list ≡ 12) × (drop s.count s.list ≡ replicate (12 - s.count) 0) × (below 12 (take s.count s.list) ≡ true) };
+    ghost invariant = { λ s. (s.count ≤ 12) × (length s.list ≡ 12) × (drop s.count s.list ≡ replicate (12 - s.count) 0) };
 
     ghost inverse = { λ names. record { list = names ++ replicate (12 - length names) 0; count = length names } };
 
@@ -34,7 +32,6 @@ impl Model for Names {
 impl Names {
     /// The chain of the lead alone.
     pub(crate) fn of_lead(lead: u32) -> Names
-        requires { lead < 12 }
         ensures { result ≡ lead ∷ [] }
     {
         let mut list = [0; 12];
@@ -43,8 +40,7 @@ impl Names {
     }
 
     pub(crate) fn push(&mut self, name: u32)
-        requires room { length self.old < 12 }
-        requires low { name < 12 }
+        requires { length self.old < 12 }
         ensures { self.new ≡ self.old ++ name ∷ [] }
     {
         self.list[self.count] = name;
@@ -54,7 +50,6 @@ impl Names {
     pub fn as_slice(&self) -> &[u32]
         ensures value { result.now ≡ self.now }
         ensures short { length result.now ≤ 12 }
-        ensures low { below 12 result.now ≡ true }
     {
         &self.list[..self.count]
     }

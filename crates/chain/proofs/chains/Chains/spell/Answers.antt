@@ -21,8 +21,8 @@ nth_missing-name-requires c = enough _ _ _ _ _ _ _ _ _ _ c.loop.invariant c.loop
 pub nonzero_rem-rank : goal.nonzero_rem-rank
 nonzero_rem-rank c = divided_some _ _ _ _ _ _ _ _ _ _ c.loop.invariant c.loop-test.true
 
-pub push-requires-clause-room : goal.push-requires-clause-room
-push-requires-clause-room c =
+pub push-requires : goal.push-requires
+push-requires c =
     let long = c.loop.invariant.long in
     let few = c.requires.few in
     let below = c.args.self.now.setting.below in

@@ -1,7 +1,5 @@
-use Rattle.std.proofs.Common.{◌≡◌, ◌+◌, ◌-◌, ◌<◌, length, length-take-le, take, drop, replicate, ap, sym, ◌∙◌, length-set, arith}
-use Rattle.std.proofs.lemmas.List.{drop-drop, drop-set-lt, drop-replicate, take_more_set}
-use Rattle.counting.specs.Lists.{below}
-use Rattle.counting.proofs.Pushes.{below_push}
+use Rattle.std.proofs.Common.{◌≡◌, ◌+◌, ◌-◌, ◌<◌, length, length-take-le, drop, replicate, ap, sym, ◌∙◌, length-set, arith}
+use Rattle.std.proofs.lemmas.List.{drop-drop, drop-set-lt, drop-replicate}
 use Rattle.chain.proofs.lists.Names.push.Goals as goal
 
 pub invariant_of-self : goal.invariant_of-self
@@ -11,11 +9,10 @@ invariant_of-self c =
     let kept = c.self.invariant in
     let long = length-take-le n list (omega (arith, kept.0, kept.1)) in
     let viewed = ap length c.self.view_is in
-    let room : n < 12 = omega (arith, c.requires.room, long, viewed) in
+    let room : n < 12 = omega (arith, c.requires, long, viewed) in
     let less : 12 - n - 1 ≡ 12 - (n + 1) = omega arith in
     let zeros : drop (n + 1) list ≡ replicate (12 - (n + 1)) 0 = sym (drop-drop 1 n list) ∙ ap (drop 1) kept.2 ∙ drop-replicate 1 (12 - n) 0 ∙ ap (λ k. replicate k 0) less in (
       omega arith,
       length-set list n c.args.name ∙ kept.1,
       drop-set-lt (n + 1) list n c.args.name (omega arith) ∙ zeros,
-      ap (below 12) (take_more_set list n c.args.name (omega (arith, kept.1))) ∙ below_push 12 (take n list) c.args.name kept.3 c.requires.low,
     )
