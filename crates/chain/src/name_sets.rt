@@ -45,7 +45,8 @@ impl NameSet {
 
     /// How many names are in the set.
     pub fn len(self) -> u32
-        ensures { result ≡ tally (in_set self) 16 }
+        ensures value { result ≡ tally (in_set self) 16 }
+        ensures most { result ≤ 16 }
     {
         self.mask.count_ones()
     }

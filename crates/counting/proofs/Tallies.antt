@@ -1,5 +1,5 @@
 -- How a tally grows, and what it says of lists of different numbers. Assumes nothing.
-use Rattle.std.proofs.Common.{◌≡◌, ℕ, zero, suc, ◌<◌, ◌≤◌, Bool, true, false, cond, not, ◌||◌, eqb, ltb, List, [], ◌∷◌, length, get_or, sym, refl, ap, ◌∙◌, subst, ⊎_elim, arith}
+use Rattle.std.proofs.Common.{◌≡◌, ℕ, zero, suc, ◌+◌, ◌<◌, ◌≤◌, Bool, true, false, cond, not, ◌||◌, eqb, ltb, List, [], ◌∷◌, length, get_or, sym, refl, ap, ◌∙◌, subst, ⊎_elim, arith}
 use Rattle.std.proofs.lemmas.Bool.{cases_Bool, cases_eq, cond-true, cond-false, and_parts, and_from, or_left, or_right, eq-eqb, ne_eqb, ltb-true, lt-ltb, not-true, not_from_false}
 use Rattle.counting.specs.Lists.{has, distinct, below, tally}
 
@@ -109,3 +109,10 @@ full_distinct (x ∷ xs) n full =
     (λ twice. let same = list_again x xs n twice in absurd (omega arith))
     (λ once. let more = list_more x xs n in and_from _ _ (not_from_false _ once) (full_distinct xs n (omega arith)))
     (cases_Bool (has x xs))
+
+-- a tally ends where nothing more passes
+pub tally_past : (f : ℕ → Bool) (n d : ℕ) → ((q : ℕ) → n ≤ q → f q ≡ false) → tally f (n + d) ≡ tally f n
+tally_past f n zero none = let e : n + 0 ≡ n = omega arith in ap (tally f) e
+tally_past f n (suc d) none =
+    let e : n + suc d ≡ suc (n + d) = omega arith in
+    ap (tally f) e ∙ tally_no f (n + d) (none (n + d) (omega arith)) ∙ tally_past f n d none

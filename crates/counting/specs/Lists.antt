@@ -4,7 +4,7 @@
 --   below      every number of a list is below n
 --   tally      how many numbers below n pass a test
 --   alike      two lists are the same
-use Rattle.std.specs.Prelude.{ℕ, zero, suc, Bool, true, false, cond, not, ◌&&◌, ◌||◌, List, [], ◌∷◌, ◌==◌, nat_lt}
+use Rattle.std.specs.Prelude.{ℕ, zero, suc, Bool, true, false, if◌then◌else◌, not, ◌&&◌, ◌||◌, List, [], ◌∷◌, ◌==◌, nat_lt}
 
 abbrev pub has : ℕ → List ℕ → Bool
 has x [] = false
@@ -20,7 +20,7 @@ below n (x ∷ xs) = nat_lt x n && below n xs
 
 abbrev pub tally : (ℕ → Bool) → ℕ → ℕ
 tally f zero = 0
-tally f (suc n) = cond (f n) (suc (tally f n)) (tally f n)
+tally f (suc n) = if f n then suc (tally f n) else tally f n
 
 abbrev pub alike : List ℕ → List ℕ → Bool
 alike [] [] = true

@@ -1,9 +1,8 @@
-mod AfterLead
 mod Examples
 mod Gathering
 mod HeldChains
+mod Hiding
 mod Knowing
-mod NameSets
 mod Searching
 pub mod Smaller
 mod TakenCells

@@ -1,20 +1,17 @@
 -- Searching downwards for the greatest weight that a taken chain bears. Assumes nothing.
 --   NoneHeavier   no held chain bears more than w
 --   NoneBefore    no held chain at a place below `at` bears w
-use Rattle.std.proofs.Common.{◌≡◌, ℕ, ◌+◌, ◌-◌, ◌^◌, ◌<◌, ◌≤◌, Bool, true, false, not, ◌&&◌, List, ◌∷◌, length, Some, None, Option, sym, ap, ◌∙◌, ⊎_elim, arith}
-use lib.Count.{ones}
+use Rattle.std.proofs.Common.{◌≡◌, ℕ, ◌+◌, ◌-◌, ◌<◌, ◌≤◌, Bool, true, false, not, ◌&&◌, List, ◌∷◌, length, sym, ap, ◌∙◌, ⊎_elim, arith}
 use Rattle.std.proofs.lemmas.Bool.{true≢false, cases_Bool, cases_lt, and_parts}
-use Rattle.counting.specs.Lists.{has}
+use Rattle.counting.specs.Lists.{has, tally}
 use Rattle.counting.proofs.Crowds.{tally_grows}
+use Rattle.counting.proofs.Tallies.{tally_past}
 use Rattle.chain.specs.Places.{within}
 use Rattle.chain.proofs.ProperChains.{second_low}
-use Rattle.order.specs.Sets.{has as in_mask, Member, least}
-use Rattle.order.specs.Masks.{least_member}
 use Rattle.weight.specs.declared.cells.Cell.{Cell}
 use Rattle.weight.specs.Cells.{taken_at, held_in}
 use Rattle.weight.specs.Weights.{Seconds, Bears, Borne, hidden}
 use Rattle.weight.proofs.HeldChains.{held_proper, held_taken, held_inside, long_within}
-use Rattle.weight.proofs.NameSets.{mask_tally}
 
 abbrev pub NoneHeavier : (n t : ℕ) → (List ℕ → Bool) → (ℕ → Bool) → ℕ → Type 0
 NoneHeavier n t held S w = (v : ℕ) → Borne n t held S v → v ≤ w
@@ -22,30 +19,30 @@ NoneHeavier n t held S w = (v : ℕ) → Borne n t held S v → v ≤ w
 abbrev pub NoneBefore : (n t lead : ℕ) → List Cell → (ℕ → Bool) → ℕ → ℕ → Type 0
 NoneBefore n t lead part S w at = (names : List ℕ) → held_in n t lead part names ≡ true → 2 ≤ length names → within n names < at → Bears n t S w names → ⊥
 
-module _ (n t lead : ℕ) (part : List Cell) (seconds : ℕ) (s : Seconds (held_in n t lead part) (in_mask seconds)) where
+-- a set of names of a ring has all its names below n
+pub all_in_ring : (n : ℕ) (S : ℕ → Bool) → n ≤ 12 → ((q : ℕ) → n ≤ q → S q ≡ false) → tally S 16 ≡ tally S n
+all_in_ring n S few none = let e : 16 ≡ n + (16 - n) = omega arith in ap (tally S) e ∙ tally_past S n (16 - n) none
+
+module _ (n t lead : ℕ) (part : List Cell) (S : ℕ → Bool) (s : Seconds (held_in n t lead part) S) where
   -- all names of S are of the ring
-  pub seconds_low : (q : ℕ) → n ≤ q → in_mask seconds q ≡ false
+  pub seconds_low : (q : ℕ) → n ≤ q → S q ≡ false
   seconds_low q past =
       ⊎_elim
       (λ on. let chain = s.only q on in let low = second_low n t lead chain.0 q chain.1 (held_proper n t lead part _ chain.2) in absurd (omega arith))
       (λ off. off)
-      (cases_Bool (in_mask seconds q))
+      (cases_Bool (S q))
 
   -- nothing bears more than |S| + 2
-  pub start : seconds < 2 ^ 16 → NoneHeavier n t (held_in n t lead part) (in_mask seconds) (ones seconds + 2)
-  start narrow v borne =
-      let all = mask_tally seconds n narrow seconds_low in
-      let less = tally_grows (λ q. in_mask seconds q && not (has q (hidden t v borne.names))) (in_mask seconds) n (λ q _ on. (and_parts (in_mask seconds q) _ on).0) in
+  pub start : n ≤ 12 → (count : ℕ) → count ≡ tally S 16 → NoneHeavier n t (held_in n t lead part) S (count + 2)
+  start few count is v borne =
+      let all = all_in_ring n S few seconds_low in
+      let less = tally_grows (λ q. S q && not (has q (hidden t v borne.names))) S n (λ q _ on. (and_parts (S q) _ on).0) in
       let bears = borne.bears in
       omega arith
 
   -- a chain of two or more names is held where S is not empty, and it bears 2
-  pub bears_two : seconds < 2 ^ 16 → (seconds ≡ 0 → ⊥) → Borne n t (held_in n t lead part) (in_mask seconds) 2
-  bears_two narrow some = go (least seconds) (least_member seconds narrow)
-    where
-      go : (o : Option ℕ) → Member seconds o → Borne n t (held_in n t lead part) (in_mask seconds) 2
-      go None empty = absurd (some empty)
-      go (Some q) on = let chain = s.only q on in record { names = chain.0 ∷ q ∷ chain.1; here = chain.2; long = omega arith; bears = omega arith }
+  pub bears_two : (q : ℕ) → S q ≡ true → Borne n t (held_in n t lead part) S 2
+  bears_two q on = let chain = s.only q on in record { names = chain.0 ∷ q ∷ chain.1; here = chain.2; long = omega arith; bears = omega arith }
 
 module _ (n t lead : ℕ) (part : List Cell) (S : ℕ → Bool) (w : ℕ) where
   -- the first place is that of the chain of the lead alone

@@ -1,10 +1,9 @@
 // Which orders a switch knows of.
-ghost use Rattle.std.specs.Prelude.{◌≡◌, ℕ, true, false};
-ghost use Rattle.weight.specs.Cells.{taken_at, holds, Knows};
+ghost use Rattle.weight.specs.Cells.{holds_of, Knows};
 
 use crate::cells::Cell;
-use crate::parts::{MOST_CODES, part_of};
-use setting::Setting;
+use crate::parts::{MOST_CODES, Part};
+use chain::Chains;
 
 /// What a switch knows of orders, by the chains that it holds.
 #[derive(Clone, Copy, Debug, PartialEq, Eq)]
@@ -17,29 +16,16 @@ pub enum Known {
     Several,
 }
 
-/// Whether any of the cells is taken.
-fn any_taken(part: &[Cell]) -> bool
-    ensures some { result ≡ true → (i : ℕ) × (taken_at part.now i ≡ true) }
-    ensures none { result ≡ false → (i : ℕ) → taken_at part.now i ≡ false }
-{
-    for cell in part {
-        if cell.taken {
-            return true;
-        }
-    }
-    false
-}
-
 /// The sole order of the chains that a switch holds, or that there is none, or that there are several.
-pub fn known_order(setting: &Setting, lead: u32, cells: &[Cell]) -> Known
-    ensures { Knows (holds setting.now.size setting.now.tolerance lead cells.now) result }
+pub fn known_order(chains: &Chains, cells: &[Cell]) -> Known
+    ensures { Knows (holds_of chains.now cells.now) result }
 {
-    if lead >= setting.size() {
+    if chains.lead >= chains.setting.size() {
         return Known::Nothing;
     }
     let mut known = Known::Nothing;
     for code in 0..MOST_CODES {
-        if any_taken(part_of(setting, code, cells)) {
+        if Part::of(chains, code, cells).any_taken() {
             match known {
                 Known::Nothing => known = Known::Sole(code),
                 _ => return Known::Several,

@@ -4,7 +4,6 @@
 mod bearing;
 mod cells;
 mod knowns;
-mod masks;
 mod parts;
 mod weights;
 

@@ -1,6 +1,6 @@
-use Rattle.weight.specs.Cells.{holds}
+use Rattle.weight.specs.Cells.{holds_of}
 use Rattle.weight.proofs.Knowing.{KnownBelow}
 use Rattle.weight.proofs.knowns.known_order.Given as goal
 
 abbrev pub invariant-loop-code : goal.invariant-loop-code
-invariant-loop-code l = KnownBelow (holds l.setting.size l.setting.tolerance l.initial.lead l.cells) l.code l.known
+invariant-loop-code l = KnownBelow (holds_of l.chains l.cells) l.code l.known
