@@ -12,14 +12,14 @@
 --   ended          round 2, the last, is closed: order 1 weighs 3 at both, the other order nothing, so both carry it out
 -- Each state has from the one before it what the call between them leaves. No rule reads what is said of switch 0 here,
 -- its standing and what it holds, for it is faulty.
-use Rattle.std.specs.Prelude.{ℕ, Bool, true, false, cond, not, ◌&&◌, ◌||◌, List, [], ◌∷◌, ◌==◌}
+use Rattle.std.specs.Prelude.{ℕ, Bool, true, false, if◌then◌else◌, not, ◌&&◌, ◌||◌, List, [], ◌∷◌, ◌==◌}
 use Rattle.counting.specs.Lists.{alike}
 use Rattle.protocol.specs.declared.standings.Standing.TheVariants.{Waiting, Carry}
 use Rattle.protocol.specs.Rings.{Ring}
 use Rattle.protocol.specs.States.{State}
 
 abbrev pub ring : Ring
-ring = record { n = 3; t = 1; lead = 0; codes = 2; sound = λ p. not (p == 0); order = 0; pick = λ set. cond (set 0) 0 1 }
+ring = record { n = 3; t = 1; lead = 0; codes = 2; sound = λ p. not (p == 0); order = 0; pick = λ set. if set 0 then 0 else 1 }
 
 abbrev pub lead_alone : ℕ → List ℕ → Bool
 lead_alone m names = m == 1 && alike names (0 ∷ [])
