@@ -8,6 +8,5 @@ mod Quotes
 mod QuotesBack
 mod QuotesOnly
 mod Scans
-mod Spelling
 mod Threes
 mod Values

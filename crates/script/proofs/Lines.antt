@@ -1,14 +1,15 @@
 -- What stands between a line's brackets, from its first item on. Assumes nothing.
 use Rattle.std.proofs.Common.{◌≡◌, ℕ, ◌+◌, ◌-◌, ◌<◌, ◌≤◌, Bool, true, false, eqb, List, [], ◌∷◌, length, drop, codes, Result, sym, refl, ap, ◌∙◌, subst, ⊎_elim, arith, length-append, length-drop, length-take-le}
+use Rattle.std.specs.Str.{bytes_eq}
 use Rattle.std.proofs.lemmas.Bool.{cond-true, cond-false, cases_Bool, and_parts, eqb-true}
+use Rattle.std.proofs.lemmas.Slice.Eq.{bytes_eq-Decides}
 use Rattle.script.specs.declared.flaws.Flaw.{Flaw}
 use Rattle.script.specs.declared.forms.Form.{Form}
 use Rattle.script.specs.declared.items.Item.{Item}
 use Rattle.script.specs.Brackets.{closes, fills}
-use Rattle.script.specs.Forms.{Piece, piece, following, inside, inner, same, ByWord, word_of}
+use Rattle.script.specs.Forms.{Piece, piece, following, inside, inner, ByWord, word_of}
 use Rattle.script.specs.Items.{Reads, part}
 use Rattle.script.proofs.Cuts.{following_next}
-use Rattle.script.proofs.Spelling.{same_from}
 use Rattle.script.proofs.Threes.{past}
 
 -- an item that was read from a text at place 2 is the first piece there
@@ -32,9 +33,9 @@ module _ {text : List ℕ} {i : Item} {more : List ℕ} (r : Reads text 2 i more
 pub by_word : (w : Piece) (rest : List ℕ) (r : Result Form Flaw) → ByWord w rest r → r ≡ word_of (w.place + length w.bytes + length rest) (w ∷ following (w.place + length w.bytes) rest)
 by_word w rest r h =
     ⊎_elim
-    (λ e. h.quote (same_from w.bytes (codes "quote") e) ∙ sym (cond-true _ _ _ e))
-    (λ e. h.other (λ is. differ (subst (λ bs. same bs (codes "quote") ≡ false) is e)) ∙ sym (cond-false _ _ _ e))
-    (cases_Bool (same w.bytes (codes "quote")))
+    (λ e. h.quote ((bytes_eq-Decides w.bytes (codes "quote")).0 e) ∙ sym (cond-true _ _ _ e))
+    (λ e. h.other (λ is. differ (subst (λ bs. bytes_eq bs (codes "quote") ≡ false) is e)) ∙ sym (cond-false _ _ _ e))
+    (cases_Bool (bytes_eq w.bytes (codes "quote")))
   where
     differ : true ≡ false → ⊥
     differ e = let z : ◌≡◌ {A = ℕ} 0 1 = cc in omega arith

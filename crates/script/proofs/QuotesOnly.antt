@@ -3,16 +3,17 @@ use Rattle.std.proofs.Common.{◌≡◌, ℕ, suc, ◌+◌, ◌-◌, ◌<◌, Bo
 use Rattle.std.proofs.lemmas.List.{nil_from_length}
 use Rattle.std.proofs.lemmas.Bool.{and_parts, and_from, and_right, not_from_true, not_from_false, cases_Bool, cases_eq, cond-true, cond-false, eqb-true, eq-eqb, ne_eqb}
 use Rattle.std.proofs.lemmas.Bool.Decides.{nat_tests}
+use Rattle.std.specs.Str.{bytes_eq}
+use Rattle.std.proofs.lemmas.Slice.Eq.{bytes_eq-Decides}
 use Rattle.script.specs.declared.flaws.Flaw.{Flaw}
 use Rattle.script.specs.declared.forms.Form.{Form}
 use Rattle.script.specs.declared.forms.Form.TheVariants.{Quote}
 use Rattle.script.specs.Brackets.{after, closes, fills}
-use Rattle.script.specs.Forms.{Piece, cut, onto, placed, inside, inner, same, mismatch, misnumbered, value, numbers_of, sorts_of, whole, word_of, quote_of, form_of}
+use Rattle.script.specs.Forms.{Piece, cut, onto, placed, inside, inner, mismatch, misnumbered, value, numbers_of, sorts_of, whole, word_of, quote_of, form_of}
 use Rattle.script.specs.Numerals.{numeral, valued, read}
 use Rattle.script.specs.QuoteLines.{quote_line}
 use Rattle.script.proofs.Decimals.{read_decimal}
 use Rattle.script.proofs.QuotesBack.{inner_of, quote_bracketed}
-use Rattle.script.proofs.Spelling.{same_from}
 
 -- pieces with a space between each two
 abbrev join : List (List ℕ) → List ℕ
@@ -114,9 +115,9 @@ word_written : (end n t c : ℕ) (ps : List Piece) → word_of end ps ≡ Ok (Qu
 word_written end n t c [] h = absurd (err_ok _ _ h)
 word_written end n t c (w ∷ ps) h =
     ⊎_elim
-    (λ e. (λ k. same_from w.bytes (codes "quote") e k ∷ three_written end n t c ps (sym (cond-true _ _ _ e) ∙ h) k))
+    (λ e. (λ k. (bytes_eq-Decides w.bytes (codes "quote")).0 e k ∷ three_written end n t c ps (sym (cond-true _ _ _ e) ∙ h) k))
     (λ e. absurd (err_ok _ _ (sym (cond-false _ _ _ e) ∙ h)))
-    (cases_Bool (same w.bytes (codes "quote")))
+    (cases_Bool (bytes_eq w.bytes (codes "quote")))
 
 -- the last byte of a form closes it
 none_left : (d b : ℕ) → after (suc d) b ≡ 0 → b ≡ 41

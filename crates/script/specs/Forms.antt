@@ -13,8 +13,9 @@
 --   whole         a line of at most 200 bytes that is one bracketed form, and whose last byte is among the script's first
 --                 32,768; that byte's number in the script is `last`
 --   form_of       the form that a line holds, or its flaw
-use Rattle.std.specs.Prelude.{◌≡◌, ℕ, ◌+◌, ◌-◌, Bool, true, false, cond, not, ◌&&◌, List, [], ◌∷◌, map, length, is_some, Some, None, Ok, Err, codes, Option, Result, ◌==◌, ◌≢◌, nat_le, slice_index_or}
+use Rattle.std.specs.Prelude.{◌≡◌, ℕ, ◌+◌, ◌-◌, Bool, true, false, if◌then◌else◌, not, ◌&&◌, List, [], ◌∷◌, map, length, is_some, Some, None, Ok, Err, codes, Option, Result, ◌==◌, ◌≢◌, nat_le, slice_index_or}
 use Rattle.std.specs.List.{between}
+use Rattle.std.specs.Str.{bytes_eq}
 use Rattle.script.specs.declared.flaws.Flaw.{Flaw}
 use Rattle.script.specs.declared.flaws.Flaw.TheVariants.{NotAForm, UnknownWord, WrongItem, WrongNumber}
 use Rattle.script.specs.declared.forms.Form.{Form}
@@ -35,7 +36,7 @@ onto b (x ∷ xs) = (b ∷ x) ∷ xs
 
 abbrev pub cut : ℕ → List ℕ → List (List ℕ)
 cut d [] = [] ∷ []
-cut d (b ∷ bs) = cond (d == 0 && b == 32) ([] ∷ cut 0 bs) (onto b (cut (after d b) bs))
+cut d (b ∷ bs) = if d == 0 && b == 32 then [] ∷ cut 0 bs else onto b (cut (after d b) bs)
 
 abbrev pub placed : ℕ → List (List ℕ) → List Piece
 placed p [] = []
@@ -49,11 +50,11 @@ abbrev pub mismatch : List (List ℕ → Bool) → ℕ → List Piece → Option
 mismatch [] end [] = None
 mismatch [] end (x ∷ xs) = Some x.place
 mismatch (wanted ∷ more) end [] = Some end
-mismatch (wanted ∷ more) end (x ∷ xs) = cond (wanted x.bytes) (mismatch more end xs) (Some x.place)
+mismatch (wanted ∷ more) end (x ∷ xs) = if wanted x.bytes then mismatch more end xs else Some x.place
 
 abbrev pub misnumbered : List Piece → Option ℕ
 misnumbered [] = None
-misnumbered (x ∷ xs) = cond (numeral x.bytes && not (is_some (read x.bytes))) (Some x.place) (misnumbered xs)
+misnumbered (x ∷ xs) = if numeral x.bytes && not (is_some (read x.bytes)) then Some x.place else misnumbered xs
 
 -- the value of the k-th piece, from 0
 abbrev pub value : List Piece → ℕ → ℕ
@@ -73,16 +74,9 @@ three_numerals = numeral ∷ numeral ∷ numeral ∷ []
 abbrev pub quote_of : ℕ → List Piece → Result Form Flaw
 quote_of end xs = sorts_of (mismatch three_numerals end xs) (numbers_of (misnumbered xs) (Quote (value xs 0) (value xs 1) (value xs 2)))
 
--- whether two texts are the same
-abbrev pub same : List ℕ → List ℕ → Bool
-same [] [] = true
-same [] (y ∷ ys) = false
-same (x ∷ xs) [] = false
-same (x ∷ xs) (y ∷ ys) = x == y && same xs ys
-
 abbrev pub word_of : ℕ → List Piece → Result Form Flaw
 word_of end [] = Err (WrongItem end)
-word_of end (x ∷ xs) = cond (same x.bytes (codes "quote")) (quote_of end xs) (Err (UnknownWord x.place))
+word_of end (x ∷ xs) = if bytes_eq x.bytes (codes "quote") then quote_of end xs else Err (UnknownWord x.place)
 
 abbrev pub inside : List ℕ → List Piece
 inside [] = []
@@ -95,7 +89,7 @@ abbrev pub whole : ℕ → List ℕ → Bool
 whole last line = nat_le (length line) 200 && (nat_le last 32768 && fills line)
 
 abbrev pub form_of : ℕ → List ℕ → Result Form Flaw
-form_of last line = cond (whole last line) (word_of (length line) (inside (inner line))) (Err NotAForm)
+form_of last line = if whole last line then word_of (length line) (inside (inner line)) else Err NotAForm
 
 -- What the readers of numbers say, where `rest` is empty or begins with the space at `place`.
 --   next_place     where the next piece begins, or would

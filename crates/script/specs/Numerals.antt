@@ -3,7 +3,7 @@
 --   plain     no zero stands in front of another digit
 --   valued    the decimal value of digits, where n was read before them
 --   read      the value of a plain numeral that is at most 4,294,967,295
-use Rattle.std.specs.Prelude.{ℕ, ◌+◌, ◌-◌, ◌*◌, Bool, cond, not, ◌&&◌, List, [], ◌∷◌, length, Some, None, Option, ◌==◌, nat_le, nat_lt, slice_index}
+use Rattle.std.specs.Prelude.{ℕ, ◌+◌, ◌-◌, ◌*◌, Bool, if◌then◌else◌, not, ◌&&◌, List, [], ◌∷◌, length, Some, None, Option, ◌==◌, nat_le, nat_lt, slice_index}
 use Rattle.std.specs.Str.{all_ascii_digits}
 
 abbrev pub numeral : List ℕ → Bool
@@ -20,4 +20,4 @@ abbrev pub largest : ℕ
 largest = 4294967295
 
 abbrev pub read : List ℕ → Option ℕ
-read ds = cond (plain ds && nat_le (valued 0 ds) largest) (Some (valued 0 ds)) None
+read ds = if plain ds && nat_le (valued 0 ds) largest then Some (valued 0 ds) else None

@@ -18,7 +18,7 @@ const LINE_BYTES: usize = 200;
 const SCRIPT_BYTES: usize = 32_768;
 
 /// A form with the values of its items.
-#[derive(Clone, Copy)]
+#[derive(Clone, Copy, Debug, PartialEq, Eq)]
 pub enum Form {
     /// The round that a ring of `size` and `tolerance` is quoted at, where `sound` switches are sound.
     Quote {
