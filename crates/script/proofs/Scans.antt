@@ -1,5 +1,6 @@
 -- What one turn of a scan over a text keeps, and what its end shows. Assumes nothing.
-use Rattle.std.proofs.Common.{◌≡◌, ℕ, suc, ◌+◌, ◌<◌, ◌≤◌, true, false, not, ◌&&◌, eqb, ltb, List, length, get_or, drop, sym, ap, ◌∙◌, arith, length-drop}
+use Rattle.std.proofs.Common.{◌≡◌, ℕ, suc, ◌+◌, ◌<◌, ◌≤◌, Bool, true, false, not, ◌&&◌, eqb, ltb, List, [], ◌∷◌, length, get_or, drop, sym, refl, ap, ◌∙◌, arith, length-drop}
+use Rattle.std.specs.List.{list_all, starts_with}
 use Rattle.std.specs.Str.{all_ascii_digits}
 use Rattle.std.specs.Char.{is_ascii_digit}
 use Rattle.std.proofs.lemmas.List.{at_drop_more, at_drop_all, get_or_past}
@@ -48,25 +49,19 @@ span_all bs i d end within same =
 pub closes_none : (bs : List ℕ) (i d : ℕ) → length bs ≤ i → closes d (drop i bs) ≡ closes 0 bs → false ≡ fills bs
 closes_none bs i d end same = sym (and_right _ _ (sym same ∙ at_drop_all (closes d) bs i end))
 
--- digits so far
-module _ (bs : List ℕ) (i : ℕ) (same : all_ascii_digits (drop i bs) ≡ all_ascii_digits bs) where
-  pub digits_on : i < length bs → is_ascii_digit (get_or bs i 0) ≡ true → all_ascii_digits (drop (i + 1) bs) ≡ all_ascii_digits bs
-  digits_on on digit = sym (ap (λ b. b && all_ascii_digits (drop (i + 1) bs)) digit) ∙ sym (at_drop_more all_ascii_digits bs i 0 on) ∙ same
+all_digits : (bs : List ℕ) → list_all is_ascii_digit bs ≡ all_ascii_digits bs
+all_digits [] = refl
+all_digits (b ∷ bs) = ap (λ r. is_ascii_digit b && r) (all_digits bs)
 
-  pub digits_not : i < length bs → is_ascii_digit (get_or bs i 0) ≡ false → false ≡ numeral bs
-  digits_not on other =
-      sym (and_left _ _ (sym same ∙ at_drop_more all_ascii_digits bs i 0 on ∙ and_left _ _ other))
+-- a text that is not empty is digits alone, as the code tests it
+pub digits_alone : {r : Bool} (bs : List ℕ) → eqb (length bs) 0 ≡ false → r ≡ list_all is_ascii_digit bs → r ≡ numeral bs
+digits_alone bs some is = let digits = is ∙ all_digits bs in grind (arith, nat_tests)
 
-  pub digits_all : length bs ≤ i → not (eqb (length bs) 0) ≡ numeral bs
-  digits_all end =
-      let all : all_ascii_digits bs ≡ true = sym same ∙ at_drop_all all_ascii_digits bs i end in
-      let some : not (eqb (length bs) 0) ≡ ltb 0 (length bs) = grind (arith, nat_tests) in
-      some ∙ sym (ap (λ b. b && ltb 0 (length bs)) all)
+-- what the code's test of the first byte says
+pub opens : {r : Bool} (bs : List ℕ) → r ≡ starts_with eqb bs (40 ∷ []) → r ≡ true → get_or bs 0 0 ≡ 40
+opens [] is so = let other = sym is ∙ so in cc
+opens (b ∷ bs) is so = let first = sym is ∙ so in grind (arith, nat_tests)
 
-pub other_opens : (bs : List ℕ) → (get_or bs 0 0 ≡ 40 → ⊥) → false ≡ fills bs
-other_opens bs other = sym (and_left _ _ (ne_eqb (get_or bs 0 0) 40 other))
-
-pub none_opens : (bs : List ℕ) → eqb (length bs) 0 ≡ true → false ≡ fills bs
-none_opens bs none =
-    let past = get_or_past bs 0 0 (let h = eqb-true (length bs) 0 none in omega arith) in
-    other_opens bs (λ first. omega arith)
+pub opens_not : {r : Bool} (bs : List ℕ) → r ≡ starts_with eqb bs (40 ∷ []) → r ≡ false → false ≡ fills bs
+opens_not [] is not_so = refl
+opens_not (b ∷ bs) is not_so = let first = sym is ∙ not_so in let other : eqb b 40 ≡ false = grind (arith, nat_tests) in sym (and_left _ _ other)

@@ -27,6 +27,7 @@ fn item_len(text: &[u8]) -> usize
     ensures value { result ≡ span 0 text.now }
     ensures bound { result ≤ length text.now }
 {
+    // As a chain this is a `position` whose closure changes the depth after each answer: no plainer.
     let mut depth = 0;
     for (i, b) in text.iter().enumerate() {
         if depth == 0 && *b == b' ' {

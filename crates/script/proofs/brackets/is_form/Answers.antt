@@ -1,12 +1,11 @@
 use Rattle.std.proofs.Common.{◌≡◌, ◌+◌, ◌≤◌, drop, sym, ◌∙◌, subst, rules}
 use Rattle.script.specs.Brackets.{closes}
-use Rattle.script.proofs.Scans.{none_opens, other_opens, closes_here, closes_on, closes_none, deeper}
+use Rattle.script.proofs.Scans.{opens, opens_not, closes_here, closes_on, closes_none, deeper}
 use Rattle.script.proofs.brackets.is_form.Goals as goal
-use Rattle.script.proofs.brackets.is_form.Goals.{then-is_empty-via-then-is_empty, then-is_empty-via-else-is_empty+then-text-ne40}
 
 pub returns-then-depth-eq0 : goal.returns-then-depth-eq0
 returns-then-depth-eq0 c =
-    closes_here _ _ _ c.loop-i-test.true (search rules) c.loop-i.invariant.0
+    closes_here _ _ _ c.loop-i-test.true (opens c.args.text.now c.starts_with.ensures.value c.if-not-starts_with.false) c.loop-i.invariant.0
     (sym c.depth_after-depth.ensures ∙ c.if-depth-eq0.true)
 
 pub loop-i-preserved : goal.loop-i-preserved
@@ -20,9 +19,5 @@ loop-i-preserved c =
 pub returns : goal.returns
 returns c = closes_none _ _ _ c.loop-i-test.false c.loop-i.invariant.0
 
-pub returns-then-is_empty : goal.returns-then-is_empty
-returns-then-is_empty c =
-    elim c.then-is_empty.branch [
-      | then-is_empty-via-then-is_empty w ↦ none_opens c.args.text.now (sym w.if-is_empty.ensures)
-      | then-is_empty-via-else-is_empty+then-text-ne40 w ↦ other_opens c.args.text.now w.if-text-ne40.true
-    ]
+pub returns-then-not-starts_with : goal.returns-then-not-starts_with
+returns-then-not-starts_with c = opens_not c.args.text.now c.starts_with.ensures.value c.if-not-starts_with.true
