@@ -34,12 +34,13 @@ form_no_number (b ∷ bs) h =
     let opens = eqb-true b 40 (and_parts (eqb b 40) _ h).0 in
     rw opens refl
 
-pub following_next : (place b : ℕ) (text x more : List ℕ) → x ≡ front text → x ++ more ≡ text → following place (b ∷ text) ≡ record { place = place + 1; bytes = x } ∷ following (place + 1 + length x) more
-following_next place b text x more is whole =
+-- the first piece of a text that begins at `place`, and the others
+pub placed_next : (place : ℕ) (text x more : List ℕ) → x ≡ front text → x ++ more ≡ text → placed place (cut 0 text) ≡ record { place = place; bytes = x } ∷ following (place + length x) more
+placed_next place text x more is whole =
     let back : more ≡ drop (span 0 text) text = append_cancel_left x more (drop (span 0 text) text) (whole ∙ sym (take-append-drop (span 0 text) text) ∙ ap (λ l. l ++ drop (span 0 text) text) (sym is)) in
-    ap (placed (place + 1)) (cut_front 0 text) ∙ sym (λ k. placed (place + 1) (is k ∷ rest_cut (back k))) ∙ ap (λ ps. record { place = place + 1; bytes = x } ∷ ps) (later more)
+    ap (placed place) (cut_front 0 text) ∙ sym (λ k. placed place (is k ∷ rest_cut (back k))) ∙ ap (λ ps. record { place = place; bytes = x } ∷ ps) (later more)
   where
-    later : (more : List ℕ) → placed (place + 1 + length x + 1) (rest_cut more) ≡ following (place + 1 + length x) more
+    later : (more : List ℕ) → placed (place + length x + 1) (rest_cut more) ≡ following (place + length x) more
     later [] = refl
     later (c ∷ cs) = refl
 
@@ -51,7 +52,7 @@ module _ (place : ℕ) (rest text : List ℕ) (some : rest ≡ get_or rest 0 0 �
       let all = ap length r.whole in
       let long = ap length some in
       record {
-        first = ap (following place) some ∙ following_next place (get_or rest 0 0) text x.bytes.now more r.item r.whole ∙ ap (λ p. record { place = p; bytes = x.bytes.now } ∷ following (p + length x.bytes.now) more) at;
+        first = ap (following place) some ∙ placed_next (place + 1) text x.bytes.now more r.item r.whole ∙ ap (λ p. record { place = p; bytes = x.bytes.now } ∷ following (p + length x.bytes.now) more) at;
         digits = r.sorted;
         long = omega arith;
       }

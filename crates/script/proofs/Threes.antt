@@ -3,9 +3,9 @@ use Rattle.std.proofs.Common.{◌≡◌, ℕ, ◌+◌, ◌<◌, Bool, true, fals
 use Rattle.std.specs.Option.{ok_or}
 use Rattle.std.proofs.lemmas.Bool.{cond-true, cond-false, not-true}
 use Rattle.script.specs.declared.flaws.Flaw.{Flaw}
-use Rattle.script.specs.declared.flaws.Flaw.TheVariants.{WrongNumber}
+use Rattle.script.specs.declared.flaws.Flaw.TheVariants.{WrongItem, WrongNumber}
 use Rattle.script.specs.declared.items.Part.{Part}
-use Rattle.script.specs.Forms.{Piece, piece, placed, following, mismatch, three_numerals, next_place, is_no_number, NextNumber, ThreeNumbers, quote_of}
+use Rattle.script.specs.Forms.{Piece, piece, placed, following, mismatch, three_numerals, next_place, is_no_number, NextNumber, ThreeNumbers, Misses, quote_of}
 use Rattle.script.specs.Numerals.{numeral, read}
 use Rattle.script.proofs.Cuts.{cut_front}
 
@@ -30,15 +30,15 @@ module _ {end : ℕ} {xs : List Piece} {left : List (List ℕ → Bool)} {p : �
         ends = r.ends ∙ sym h.long;
       })
 
-  pub stops : Reached end xs (numeral ∷ left) p rest → is_no_number rest ≡ true → mismatch three_numerals end xs ≡ Some (next_place p rest)
-  stops r other = r.same ∙ ap (λ e. mismatch (numeral ∷ left) e (following p rest)) r.ends ∙ none rest other
+  pub stops : (e : Flaw) → Reached end xs (numeral ∷ left) p rest → (e ≡ WrongItem (next_place p rest)) × (is_no_number rest ≡ true) → Misses end xs e
+  stops e r h = record { at = next_place p rest; is = h.0; miss = r.same ∙ ap (λ e. mismatch (numeral ∷ left) e (following p rest)) r.ends ∙ none rest h.1 }
     where
       none : (rest : List ℕ) → is_no_number rest ≡ true → mismatch (numeral ∷ left) (p + length rest) (following p rest) ≡ Some (next_place p rest)
       none [] other = ap Some (add-zero p)
       none (b ∷ bs) other = ap (λ ps. mismatch (numeral ∷ left) (p + length (b ∷ bs)) (placed (p + 1) ps)) (cut_front 0 bs) ∙ cond-false _ _ _ (not-true _ other)
 
-pub one_too_many : {end : ℕ} {xs : List Piece} {p : ℕ} {rest : List ℕ} → Reached end xs [] p rest → 0 < length rest → mismatch three_numerals end xs ≡ Some (p + 1)
-one_too_many {end} {xs} {p} {rest} r some = r.same ∙ extra rest some
+pub one_too_many : {end : ℕ} {xs : List Piece} {p : ℕ} {rest : List ℕ} (e : Flaw) → Reached end xs [] p rest → (e ≡ WrongItem (p + 1)) × (0 < length rest) → Misses end xs e
+one_too_many {end} {xs} {p} {rest} e r h = record { at = p + 1; is = h.0; miss = r.same ∙ extra rest h.1 }
   where
     extra : (rest : List ℕ) → 0 < length rest → mismatch [] end (following p rest) ≡ Some (p + 1)
     extra [] none = absurd (omega arith)

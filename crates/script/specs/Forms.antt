@@ -2,6 +2,7 @@
 --   Piece         a piece of a line between spaces, with the place of its first byte
 --   cut           a text, cut at its spaces outside brackets; d brackets are open before it
 --   placed        pieces with their places, one space between each two, the first at place p
+--   pieces_at     the pieces of a text that begins at place p; nothing is no piece, and not an empty one
 --   following     the pieces after an item that ends before place p: none at the end, else what follows the space
 --   mismatch      the place of the first piece at fault, where a form wants pieces that pass these tests and no more;
 --                 a missing one is at the closing bracket, whose place is `end`
@@ -9,11 +10,11 @@
 --   quote_of      the quote form of these pieces, or its flaw: any mismatch goes before any misnumbered piece
 --   word_of       the form that the first piece names, of the others; the closing bracket stands at `end`
 --   inner         what stands between the brackets of a line
---   inside        the pieces there, the first at place 2; nothing is no piece, and not an empty one
+--   inside        the pieces there, the first at place 2
 --   whole         a line of at most 200 bytes that is one bracketed form, and whose last byte is among the script's first
 --                 32,768; that byte's number in the script is `last`
 --   form_of       the form that a line holds, or its flaw
-use Rattle.std.specs.Prelude.{◌≡◌, ℕ, ◌+◌, ◌-◌, Bool, true, false, if◌then◌else◌, not, ◌&&◌, List, [], ◌∷◌, map, length, is_some, Some, None, Ok, Err, codes, Option, Result, ◌==◌, ◌≢◌, nat_le, slice_index_or}
+use Rattle.std.specs.Prelude.{◌≡◌, ℕ, ◌+◌, ◌-◌, Bool, true, if◌then◌else◌, not, ◌&&◌, List, [], ◌∷◌, map, length, is_some, Some, None, Ok, Err, codes, Option, Result, ◌==◌, nat_le, slice_index_or}
 use Rattle.std.specs.List.{between}
 use Rattle.std.specs.Str.{bytes_eq}
 use Rattle.script.specs.declared.flaws.Flaw.{Flaw}
@@ -41,6 +42,10 @@ cut d (b ∷ bs) = if d == 0 && b == 32 then [] ∷ cut 0 bs else onto b (cut (a
 abbrev pub placed : ℕ → List (List ℕ) → List Piece
 placed p [] = []
 placed p (x ∷ xs) = record { place = p; bytes = x } ∷ placed (p + length x + 1) xs
+
+abbrev pub pieces_at : ℕ → List ℕ → List Piece
+pieces_at p [] = []
+pieces_at p (b ∷ bs) = placed p (cut 0 (b ∷ bs))
 
 abbrev pub following : ℕ → List ℕ → List Piece
 following p [] = []
@@ -79,8 +84,7 @@ word_of end [] = Err (WrongItem end)
 word_of end (x ∷ xs) = if bytes_eq x.bytes (codes "quote") then quote_of end xs else Err (UnknownWord x.place)
 
 abbrev pub inside : List ℕ → List Piece
-inside [] = []
-inside (b ∷ bs) = placed 2 (cut 0 (b ∷ bs))
+inside bs = pieces_at 2 bs
 
 abbrev pub inner : List ℕ → List ℕ
 inner line = between 1 (length line - 1) line
@@ -123,8 +127,3 @@ pub record Misses (end : ℕ) (xs : List Piece) (e : Flaw) : Type 0 where
   pub at : ℕ
   pub is : e ≡ WrongItem at
   pub miss : mismatch three_numerals end xs ≡ Some at
-
--- What the first word selects, where `rest` follows it.
-pub record ByWord (w : Piece) (rest : List ℕ) (r : Result Form Flaw) : Type 0 where
-  pub quote : w.bytes ≡ codes "quote" → r ≡ quote_of (w.place + length w.bytes + length rest) (following (w.place + length w.bytes) rest)
-  pub other : (w.bytes ≢ codes "quote") → r ≡ Err (UnknownWord w.place)

@@ -1,4 +1,4 @@
-use Rattle.std.proofs.Common.{◌≡◌, ◌+◌, ◌≤◌, drop, sym, ◌∙◌, subst, rules}
+use Rattle.std.proofs.Common.{◌≡◌, ◌+◌, ◌≤◌, drop, sym, ◌∙◌, subst}
 use Rattle.script.specs.Brackets.{closes}
 use Rattle.script.proofs.Scans.{opens, opens_not, closes_here, closes_on, closes_none, deeper}
 use Rattle.script.proofs.brackets.is_form.Goals as goal

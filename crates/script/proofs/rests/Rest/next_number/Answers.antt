@@ -1,0 +1,10 @@
+use Rattle.std.proofs.Common.{◌+◌, ◌-◌, length, take, drop, subst, rules}
+use Rattle.std.proofs.lemmas.Slice.{first_rest}
+use Rattle.script.specs.Items.{Reads}
+use Rattle.script.proofs.Cuts.{next_number_is}
+use Rattle.script.proofs.rests.Rest.next_number.Goals as goal
+
+pub returns-in-Number-clause-number : goal.returns-in-Number-clause-number
+returns-in-Number-clause-number c =
+    next_number_is _ _ _ (first_rest c.args.self.bytes.now 0 (search rules)) _ _
+    (subst (λ i. Reads (take (length c.args.self.bytes.now - 1) (drop 1 c.args.self.bytes.now)) (c.args.self.place + 1) i c.in-Some.rest.bytes.now) c.in-Number.is c.in-Some.ensures.item)
