@@ -13,10 +13,10 @@ use crate::numerals::value_of;
 use crate::rests::Rest;
 
 /// The longest line that is read.
-const LINE_BYTES: usize = 200;
+pub(crate) const LINE_BYTES: usize = 200;
 
 /// How many bytes of a script are read, line feeds among them.
-const SCRIPT_BYTES: usize = 32_768;
+pub(crate) const SCRIPT_BYTES: usize = 32_768;
 
 /// A form with the values of its items.
 #[derive(Clone, Copy, Debug, PartialEq, Eq)]

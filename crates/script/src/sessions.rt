@@ -3,12 +3,15 @@ ghost use Rattle.std.specs.Prelude.{◌≡◌, ℕ, ◌+◌, ◌-◌, ◌^◌, �
 ghost use Rattle.script.specs.Listing.{line_text, listing, line_feeds, counted, kept_with};
 
 use crate::answers::{Line, answer_line};
+use crate::forms::{LINE_BYTES, SCRIPT_BYTES};
 use std::alloc::{AllocError, Global};
 use std::fmt::Write;
 
-const KEPT_BYTES: usize = 201;
+/// The first length of a line that is too long to be read.
+const KEPT_BYTES: usize = LINE_BYTES + 1;
 
-const COUNTED_BYTES: usize = 32_769;
+/// The first byte of a script that is past its limit.
+const COUNTED_BYTES: usize = SCRIPT_BYTES + 1;
 
 /// Reads a script and writes the answer to each of its lines. It holds no more of the script than the front of one line.
 #[derive(Drop)]
