@@ -5,13 +5,6 @@ use Rattle.script.proofs.Scans.{span_here, span_on, span_all, deeper}
 use Rattle.script.proofs.items.item_len.Goals as goal
 use Rattle.script.proofs.items.item_len.Goals.{else-depth-eq0-via-then-depth-eq0+else-b-eq32, else-depth-eq0-via-else-depth-eq0}
 
-pub returns-then-b-eq32 : goal.returns-then-b-eq32
-returns-then-b-eq32 c =
-    record {
-      value = span_here _ _ _ c.loop-i-test.true c.loop-i.invariant.0 c.if-depth-eq0.true c.if-b-eq32.true;
-      bound = omega arith;
-    }
-
 pub loop-i-preserved : goal.loop-i-preserved
 loop-i-preserved c =
     let e = sym c.depth_after-depth.ensures in
@@ -25,9 +18,3 @@ loop-i-preserved c =
       subst (λ n. n ≤ c.loop-i.i + 1) e (deeper _ _ _ c.loop-i-test.true c.loop-i.invariant.1),
     )
 
-pub returns : goal.returns
-returns c =
-    record {
-      value = span_all _ _ _ c.loop-i-test.false c.loop-i.auto.i-end c.loop-i.invariant.0;
-      bound = omega arith;
-    }
