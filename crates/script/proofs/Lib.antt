@@ -7,6 +7,5 @@ mod Moves
 mod Quotes
 mod QuotesBack
 mod QuotesOnly
-mod Scans
 mod Threes
 mod Values

@@ -1,12 +1,11 @@
 -- Three numbers, taken one after the other. Assumes nothing.
-use Rattle.std.proofs.Common.{◌≡◌, ℕ, ◌+◌, ◌<◌, Bool, true, false, List, [], ◌∷◌, length, is_some, Some, None, Ok, Err, Option, Result, sym, refl, ap, ◌∙◌, add-zero, arith}
-use Rattle.std.specs.Option.{ok_or}
+use Rattle.std.proofs.Common.{◌≡◌, ℕ, ◌+◌, ◌<◌, Bool, true, List, [], ◌∷◌, length, Some, sym, refl, ap, ◌∙◌, add-zero, arith}
 use Rattle.std.proofs.lemmas.Bool.{cond-true, cond-false, not-true}
 use Rattle.script.specs.declared.flaws.Flaw.{Flaw}
-use Rattle.script.specs.declared.flaws.Flaw.TheVariants.{WrongItem, WrongNumber}
+use Rattle.script.specs.declared.flaws.Flaw.TheVariants.{WrongItem}
 use Rattle.script.specs.declared.items.Part.{Part}
-use Rattle.script.specs.Forms.{Piece, piece, placed, following, mismatch, three_numerals, next_place, is_no_number, NextNumber, ThreeNumbers, Misses, quote_of}
-use Rattle.script.specs.Numerals.{numeral, read}
+use Rattle.script.specs.Forms.{Piece, placed, following, mismatch, three_numerals, next_place, is_no_number, NextNumber, Misses}
+use Rattle.script.specs.Numerals.{numeral}
 use Rattle.script.proofs.Cuts.{cut_front}
 
 -- the place after a part
@@ -43,24 +42,3 @@ one_too_many {end} {xs} {p} {rest} e r h = record { at = p + 1; is = h.0; miss =
     extra : (rest : List ℕ) → 0 < length rest → mismatch [] end (following p rest) ≡ Some (p + 1)
     extra [] none = absurd (omega arith)
     extra (b ∷ bs) _ = ap (λ ps. mismatch [] end (placed (p + 1) ps)) (cut_front 0 bs)
-
--- a first piece, and what follows it at the place q that the code has for its end
-pub first_then : {ps : List Piece} {q : ℕ} (x : Part) (more : List ℕ) → q ≡ past x → ps ≡ piece x ∷ following (past x) more → ps ≡ piece x ∷ following q more
-first_then x more is h = h ∙ ap (λ p. piece x ∷ following p more) (sym is)
-
--- a number that was read, and one that was not
-was_read : (o : Option ℕ) (f : Flaw) (u : ℕ) → ◌≡◌ {A = Result ℕ Flaw} (Ok u) (ok_or o f) → is_some o ≡ true
-was_read None f u e = let z : ◌≡◌ {A = ℕ} 0 1 = cc in absurd (omega arith)
-was_read (Some v) f u e = refl
-
-was_refused : (o : Option ℕ) (f e : Flaw) → ◌≡◌ {A = Result ℕ Flaw} (Err e) (ok_or o f) → (is_some o ≡ false) × (e ≡ f)
-was_refused None f e is = (refl, cc)
-was_refused (Some v) f e is = let z : ◌≡◌ {A = ℕ} 0 1 = cc in absurd (omega arith)
-
--- the third number is wrong, and the others are not
-pub third_wrong : (end : ℕ) (xs : List Piece) (x y z : Part) (u v : ℕ) (e : Flaw) → ThreeNumbers xs x y z → ◌≡◌ {A = Result ℕ Flaw} (Ok u) (ok_or (read x.bytes.now) (WrongNumber x.place)) → ◌≡◌ {A = Result ℕ Flaw} (Ok v) (ok_or (read y.bytes.now) (WrongNumber y.place)) → ◌≡◌ {A = Result ℕ Flaw} (Err e) (ok_or (read z.bytes.now) (WrongNumber z.place)) → Err e ≡ quote_of end xs
-third_wrong end xs x y z u v e h p q w =
-    let a = was_read _ _ _ p in
-    let b = was_read _ _ _ q in
-    let d = was_refused _ _ _ w in
-    rw (h.pieces, h.first, h.second, h.third, a, b, d.0) (ap Err d.1)

@@ -1,13 +1,24 @@
--- The value of digits, as a fold that may break off sums it up. Assumes nothing.
-use Rattle.std.proofs.Common.{◌≡◌, ℕ, ◌<◌, ◌≤◌, leb, List, [], ◌∷◌, true, Some, None, Option, MatchOption, sym, refl, ap, ◌∙◌, subst, ⊎_elim, arith}
+-- Digits, as chains over a text test them and sum them up. Assumes nothing.
+use Rattle.std.proofs.Common.{◌≡◌, ℕ, ◌<◌, ◌≤◌, Bool, true, false, ◌&&◌, eqb, leb, List, [], ◌∷◌, length, Some, None, Option, MatchOption, sym, refl, ap, ◌∙◌, subst, ⊎_elim, arith}
 use Rattle.std.specs.Fn.{Called}
 use Rattle.std.specs.Iterator.{AlwaysYields, YieldsThen}
-use Rattle.std.specs.List.{FoldsTo}
+use Rattle.std.specs.List.{FoldsTo, list_all}
+use Rattle.std.specs.Str.{all_ascii_digits}
+use Rattle.std.specs.Char.{is_ascii_digit}
 use denote.Param.Members.{Mut}
 use Rattle.std.proofs.lemmas.Bool.{cond-true, cond-false, le-leb, lt-leb, leb-true, cases_lt}
+use Rattle.std.proofs.lemmas.Bool.Decides.{nat_tests}
 use Rattle.std.proofs.lemmas.Iterator.{YieldsList}
 use Rattle.std.proofs.lemmas.Option.{cond_some}
-use Rattle.script.specs.Numerals.{plain, one_more, valued, largest, within, read}
+use Rattle.script.specs.Numerals.{numeral, plain, one_more, valued, largest, within, read}
+
+all_digits : (bs : List ℕ) → list_all is_ascii_digit bs ≡ all_ascii_digits bs
+all_digits [] = refl
+all_digits (b ∷ bs) = ap (λ r. is_ascii_digit b && r) (all_digits bs)
+
+-- a text that is not empty is digits alone, as the code tests it
+pub digits_alone : {r : Bool} (bs : List ℕ) → eqb (length bs) 0 ≡ false → r ≡ list_all is_ascii_digit bs → r ≡ numeral bs
+digits_alone bs some is = let digits = is ∙ all_digits bs in grind (arith, nat_tests)
 
 within_some : (n m : ℕ) → within n ≡ Some m → (n ≡ m) × (n ≤ largest)
 within_some n m is = let p = cond_some (leb n largest) n m is in (p.1, leb-true n largest p.0)

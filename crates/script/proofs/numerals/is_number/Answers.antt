@@ -2,7 +2,7 @@ use Rattle.std.proofs.Common.{sym, rules, tests}
 use Rattle.std.specs.Char.{is_ascii_digit}
 use Rattle.std.proofs.lemmas.Iterator.{YieldsList-from_slice}
 use Rattle.std.proofs.lemmas.Iterator.Search.{all_from_yields_List}
-use Rattle.script.proofs.Scans.{digits_alone}
+use Rattle.script.proofs.Values.{digits_alone}
 use Rattle.script.proofs.numerals.is_number.Goals as goal
 
 pub returns-then-not-is_empty : goal.returns-then-not-is_empty
