@@ -3,6 +3,7 @@ use Rattle.std.proofs.Common.{◌≡◌, ℕ, suc, ◌+◌, ◌-◌, ◌<◌, Bo
 use Rattle.std.proofs.lemmas.List.{nil_from_length}
 use Rattle.std.proofs.lemmas.Bool.{and_parts, and_from, and_right, not_from_true, not_from_false, cases_Bool, cases_eq, cond-true, cond-false, eqb-true, eq-eqb, ne_eqb}
 use Rattle.std.proofs.lemmas.Bool.Decides.{nat_tests}
+use Rattle.std.specs.List.{join_with_byte}
 use Rattle.std.specs.Str.{bytes_eq}
 use Rattle.std.proofs.lemmas.Slice.Eq.{bytes_eq-Decides}
 use Rattle.script.specs.declared.flaws.Flaw.{Flaw}
@@ -16,18 +17,13 @@ use Rattle.script.specs.QuoteLines.{quote_line}
 use Rattle.script.proofs.Decimals.{read_decimal}
 use Rattle.script.proofs.QuotesBack.{inner_of, quote_bracketed}
 
--- pieces with a space between each two
-abbrev join : List (List ℕ) → List ℕ
-join [] = []
-join (x ∷ []) = x
-join (x ∷ y ∷ ys) = x ++ (32 ∷ join (y ∷ ys))
-
-join_onto : (b : ℕ) (xs : List (List ℕ)) → join (onto b xs) ≡ b ∷ join xs
+-- pieces with a space between each two, and the first of them with one byte more
+join_onto : (b : ℕ) (xs : List (List ℕ)) → join_with_byte 32 (onto b xs) ≡ b ∷ join_with_byte 32 xs
 join_onto b [] = refl
 join_onto b (x ∷ []) = refl
 join_onto b (x ∷ y ∷ ys) = refl
 
-join_space : (xs : List (List ℕ)) → 0 < length xs → join ([] ∷ xs) ≡ 32 ∷ join xs
+join_space : (xs : List (List ℕ)) → 0 < length xs → join_with_byte 32 ([] ∷ xs) ≡ 32 ∷ join_with_byte 32 xs
 join_space [] h = absurd (omega arith)
 join_space (x ∷ xs) h = refl
 
@@ -41,7 +37,7 @@ cut_some d (b ∷ bs) =
     ⊎_elim (λ e. rw e (omega arith)) (λ e. rw e (onto_some b (cut (after d b) bs))) (cases_Bool (eqb d 0 && eqb b 32))
 
 -- a cut loses no byte
-cut_whole : (d : ℕ) (bs : List ℕ) → join (cut d bs) ≡ bs
+cut_whole : (d : ℕ) (bs : List ℕ) → join_with_byte 32 (cut d bs) ≡ bs
 cut_whole d [] = refl
 cut_whole d (b ∷ bs) =
     ⊎_elim
@@ -140,9 +136,9 @@ bracketed (b ∷ bs) h =
     (rest.0, (λ k. opens k ∷ rest.1 k))
 
 -- what was cut is what its pieces make
-joined : (text : List ℕ) (x : List ℕ) (xs : List (List ℕ)) → map (λ p. p.bytes) (inside text) ≡ x ∷ xs → text ≡ join (x ∷ xs)
+joined : (text : List ℕ) (x : List ℕ) (xs : List (List ℕ)) → map (λ p. p.bytes) (inside text) ≡ x ∷ xs → text ≡ join_with_byte 32 (x ∷ xs)
 joined [] x xs h = cc
-joined (b ∷ bs) x xs h = sym (cut_whole 0 (b ∷ bs)) ∙ ap join (sym (bytes_placed 2 (cut 0 (b ∷ bs))) ∙ h)
+joined (b ∷ bs) x xs h = sym (cut_whole 0 (b ∷ bs)) ∙ ap (join_with_byte 32) (sym (bytes_placed 2 (cut 0 (b ∷ bs))) ∙ h)
 
 pub reads_only : (last n t c : ℕ) (line : List ℕ) → form_of last line ≡ Ok (Quote n t c) → line ≡ quote_line n t c
 reads_only last n t c line h =

@@ -37,7 +37,7 @@ fn number(digits: Part<'_>) -> Result<u32, Flaw>
 }
 
 /// Three numbers and nothing more.
-fn three_numbers<'a>(rest: Rest<'a>) -> Result<(Part<'a>, Part<'a>, Part<'a>), Flaw>
+fn three_numbers(rest: Rest<'_>) -> Result<(Part<'_>, Part<'_>, Part<'_>), Flaw>
     ensures { MatchResult result (λ x. ThreeNumbers (following rest.entry.place rest.entry.bytes.now) x.0 x.1 x.2) (λ e. Misses (rest.entry.place + length rest.entry.bytes.now) (following rest.entry.place rest.entry.bytes.now) e) }
 {
     let (first, rest) = rest.next_number()?;

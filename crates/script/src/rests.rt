@@ -59,13 +59,10 @@ impl<'a> Rest<'a> {
             return Err(Flaw::WrongItem(self.place));
         };
         let place = self.place + 1;
-        let Some((item, rest)) = (Rest { bytes, place }).item() else {
+        let Some((Item::Number(part), rest)) = (Rest { bytes, place }).item() else {
             return Err(Flaw::WrongItem(place));
         };
-        match item {
-            Item::Number(part) => Ok((part, rest)),
-            Item::Word(_) | Item::Form(_) => Err(Flaw::WrongItem(place)),
-        }
+        Ok((part, rest))
     }
 
     /// Nothing may be left. What is left begins with a space, and an item too many after it.

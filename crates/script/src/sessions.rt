@@ -127,8 +127,6 @@ impl Session {
     fn count_byte(&mut self)
         ensures { (self.new.read ≡ counted self.old.read) × (self.new.number ≡ self.old.number) × (self.new.kept ≡ self.old.kept) }
     {
-        if self.read < COUNTED_BYTES {
-            self.read += 1;
-        }
+        self.read = COUNTED_BYTES.min(self.read + 1);
     }
 }

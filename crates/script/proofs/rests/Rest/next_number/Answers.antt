@@ -4,7 +4,8 @@ use Rattle.script.specs.Items.{Reads}
 use Rattle.script.proofs.Cuts.{next_number_is}
 use Rattle.script.proofs.rests.Rest.next_number.Goals as goal
 
-pub returns-in-Number-clause-number : goal.returns-in-Number-clause-number
-returns-in-Number-clause-number c =
+pub returns-clause-number : goal.returns-clause-number
+returns-clause-number c =
+    let next = c.in-Some-Number-default in
     next_number_is _ _ _ (first_rest c.args.self.bytes.now 0 (search rules)) _ _
-    (subst (λ i. Reads (take (length c.args.self.bytes.now - 1) (drop 1 c.args.self.bytes.now)) (c.args.self.place + 1) i c.in-Some.rest.bytes.now) c.in-Number.is c.in-Some.ensures.item)
+    (subst (λ i. Reads (take (length c.args.self.bytes.now - 1) (drop 1 c.args.self.bytes.now)) (c.args.self.place + 1) i next.rest.bytes.now) next.field-0-0-is next.ensures.item)
