@@ -5,7 +5,6 @@ ghost use Rattle.script.specs.Listing.{line_text, listing, line_feeds, counted, 
 use crate::answers::{Line, answer_line};
 use crate::forms::{LINE_BYTES, SCRIPT_BYTES};
 use std::alloc::{AllocError, Global};
-use std::fmt::Write;
 
 /// The first length of a line that is too long to be read.
 const KEPT_BYTES: usize = LINE_BYTES + 1;
