@@ -1,11 +1,12 @@
 -- Three numbers, taken one after the other. Assumes nothing.
-use Rattle.std.proofs.Common.{◌≡◌, ℕ, ◌+◌, ◌<◌, Bool, true, List, [], ◌∷◌, length, Some, sym, refl, ap, ◌∙◌, add-zero, arith}
+use Rattle.std.proofs.Common.{◌≡◌, ℕ, ◌+◌, ◌<◌, Bool, true, false, List, [], ◌∷◌, length, is_some, Some, None, Ok, Err, Option, Result, sym, refl, ap, ◌∙◌, add-zero, arith}
+use Rattle.std.specs.Option.{ok_or}
 use Rattle.std.proofs.lemmas.Bool.{cond-true, cond-false, not-true}
 use Rattle.script.specs.declared.flaws.Flaw.{Flaw}
-use Rattle.script.specs.declared.flaws.Flaw.TheVariants.{WrongItem}
+use Rattle.script.specs.declared.flaws.Flaw.TheVariants.{WrongItem, WrongNumber}
 use Rattle.script.specs.declared.items.Part.{Part}
-use Rattle.script.specs.Forms.{Piece, placed, following, mismatch, three_numerals, next_place, is_no_number, NextNumber, Misses}
-use Rattle.script.specs.Numerals.{numeral}
+use Rattle.script.specs.Forms.{Piece, placed, following, mismatch, three_numerals, next_place, is_no_number, NextNumber, ThreeNumbers, Misses, quote_of}
+use Rattle.script.specs.Numerals.{numeral, read}
 use Rattle.script.proofs.Cuts.{cut_front}
 
 -- the place after a part
@@ -42,3 +43,27 @@ one_too_many {end} {xs} {p} {rest} e r h = record { at = p + 1; is = h.0; miss =
     extra : (rest : List ℕ) → 0 < length rest → mismatch [] end (following p rest) ≡ Some (p + 1)
     extra [] none = absurd (omega arith)
     extra (b ∷ bs) _ = ap (λ ps. mismatch [] end (placed (p + 1) ps)) (cut_front 0 bs)
+
+-- a number that was read, and one that was not
+was_read : (o : Option ℕ) (f : Flaw) (u : ℕ) → ◌≡◌ {A = Result ℕ Flaw} (Ok u) (ok_or o f) → is_some o ≡ true
+was_read None f u e = cc
+was_read (Some v) f u e = refl
+
+was_refused : (o : Option ℕ) (f e : Flaw) → ◌≡◌ {A = Result ℕ Flaw} (Err e) (ok_or o f) → (is_some o ≡ false) × (e ≡ f)
+was_refused None f e is = (refl, cc)
+was_refused (Some v) f e is = cc
+
+-- the first of three numbers that is wrong is the second, or the third
+module _ (end : ℕ) (xs : List Piece) (x y z : Part) (h : ThreeNumbers xs x y z) (u : ℕ) (first : ◌≡◌ {A = Result ℕ Flaw} (Ok u) (ok_or (read x.bytes.now) (WrongNumber x.place))) (e : Flaw) where
+  pub second_wrong : ◌≡◌ {A = Result ℕ Flaw} (Err e) (ok_or (read y.bytes.now) (WrongNumber y.place)) → Err e ≡ quote_of end xs
+  second_wrong wrong =
+      let a = was_read _ _ _ first in
+      let b = was_refused _ _ _ wrong in
+      rw (h.pieces, h.first, h.second, h.third, a, b.0) (ap Err b.1)
+
+  pub third_wrong : (v : ℕ) → ◌≡◌ {A = Result ℕ Flaw} (Ok v) (ok_or (read y.bytes.now) (WrongNumber y.place)) → ◌≡◌ {A = Result ℕ Flaw} (Err e) (ok_or (read z.bytes.now) (WrongNumber z.place)) → Err e ≡ quote_of end xs
+  third_wrong v second wrong =
+      let a = was_read _ _ _ first in
+      let b = was_read _ _ _ second in
+      let d = was_refused _ _ _ wrong in
+      rw (h.pieces, h.first, h.second, h.third, a, b, d.0) (ap Err d.1)
