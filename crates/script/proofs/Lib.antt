@@ -7,7 +7,5 @@ mod Moves
 mod Quotes
 mod QuotesBack
 mod QuotesOnly
-mod Scans
-mod Spelling
 mod Threes
 mod Values

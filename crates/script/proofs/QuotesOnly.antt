@@ -3,29 +3,27 @@ use Rattle.std.proofs.Common.{◌≡◌, ℕ, suc, ◌+◌, ◌-◌, ◌<◌, Bo
 use Rattle.std.proofs.lemmas.List.{nil_from_length}
 use Rattle.std.proofs.lemmas.Bool.{and_parts, and_from, and_right, not_from_true, not_from_false, cases_Bool, cases_eq, cond-true, cond-false, eqb-true, eq-eqb, ne_eqb}
 use Rattle.std.proofs.lemmas.Bool.Decides.{nat_tests}
+use Rattle.std.specs.List.{join_with_byte}
+use Rattle.std.specs.Str.{bytes_eq}
+use Rattle.std.proofs.lemmas.Slice.Eq.{bytes_eq-Decides}
 use Rattle.script.specs.declared.flaws.Flaw.{Flaw}
+use Rattle.script.specs.declared.flaws.Flaw.TheVariants.{NotAForm, UnknownWord}
 use Rattle.script.specs.declared.forms.Form.{Form}
 use Rattle.script.specs.declared.forms.Form.TheVariants.{Quote}
 use Rattle.script.specs.Brackets.{after, closes, fills}
-use Rattle.script.specs.Forms.{Piece, cut, onto, placed, inside, inner, same, mismatch, misnumbered, value, numbers_of, sorts_of, whole, word_of, quote_of, form_of}
+use Rattle.script.specs.Forms.{Piece, cut, onto, placed, inside, inner, mismatch, misnumbered, value, numbers_of, sorts_of, whole, word_of, quote_of, form_of}
 use Rattle.script.specs.Numerals.{numeral, valued, read}
 use Rattle.script.specs.QuoteLines.{quote_line}
 use Rattle.script.proofs.Decimals.{read_decimal}
 use Rattle.script.proofs.QuotesBack.{inner_of, quote_bracketed}
-use Rattle.script.proofs.Spelling.{same_from}
 
--- pieces with a space between each two
-abbrev join : List (List ℕ) → List ℕ
-join [] = []
-join (x ∷ []) = x
-join (x ∷ y ∷ ys) = x ++ (32 ∷ join (y ∷ ys))
-
-join_onto : (b : ℕ) (xs : List (List ℕ)) → join (onto b xs) ≡ b ∷ join xs
+-- pieces with a space between each two, and the first of them with one byte more
+join_onto : (b : ℕ) (xs : List (List ℕ)) → join_with_byte 32 (onto b xs) ≡ b ∷ join_with_byte 32 xs
 join_onto b [] = refl
 join_onto b (x ∷ []) = refl
 join_onto b (x ∷ y ∷ ys) = refl
 
-join_space : (xs : List (List ℕ)) → 0 < length xs → join ([] ∷ xs) ≡ 32 ∷ join xs
+join_space : (xs : List (List ℕ)) → 0 < length xs → join_with_byte 32 ([] ∷ xs) ≡ 32 ∷ join_with_byte 32 xs
 join_space [] h = absurd (omega arith)
 join_space (x ∷ xs) h = refl
 
@@ -39,7 +37,7 @@ cut_some d (b ∷ bs) =
     ⊎_elim (λ e. rw e (omega arith)) (λ e. rw e (onto_some b (cut (after d b) bs))) (cases_Bool (eqb d 0 && eqb b 32))
 
 -- a cut loses no byte
-cut_whole : (d : ℕ) (bs : List ℕ) → join (cut d bs) ≡ bs
+cut_whole : (d : ℕ) (bs : List ℕ) → join_with_byte 32 (cut d bs) ≡ bs
 cut_whole d [] = refl
 cut_whole d (b ∷ bs) =
     ⊎_elim
@@ -53,40 +51,34 @@ bytes_placed : (p : ℕ) (xs : List (List ℕ)) → map (λ x. x.bytes) (placed 
 bytes_placed p [] = refl
 bytes_placed p (x ∷ xs) = ap (λ l. x ∷ l) (bytes_placed (p + length x + 1) xs)
 
-none_some : {A : Type 0} (x : A) → ◌≡◌ {A = Option A} (Some x) None → ⊥
-none_some x e = let z : ◌≡◌ {A = ℕ} 0 1 = cc in omega arith
-
-err_ok : {A B : Type 0} (x : A) (y : B) → ◌≡◌ {A = Result A B} (Err y) (Ok x) → ⊥
-err_ok x y e = let z : ◌≡◌ {A = ℕ} 0 1 = cc in omega arith
-
 -- a piece that was wanted is there, and of its sort
 took : (wanted : List ℕ → Bool) (more : List (List ℕ → Bool)) (end : ℕ) (ps : List Piece) → mismatch (wanted ∷ more) end ps ≡ None → (x : Piece) × (xs : List Piece) × (ps ≡ x ∷ xs) × (wanted x.bytes ≡ true) × (mismatch more end xs ≡ None)
-took wanted more end [] h = absurd (none_some end h)
+took wanted more end [] h = cc
 took wanted more end (x ∷ xs) h =
     ⊎_elim
     (λ e. (x, xs, refl, e, sym (cond-true _ _ _ e) ∙ h))
-    (λ e. absurd (none_some x.place (sym (cond-false _ _ _ e) ∙ h)))
+    (λ e. let none : Some x.place ≡ None = sym (cond-false _ _ _ e) ∙ h in cc)
     (cases_Bool (wanted x.bytes))
 
 no_more : (end : ℕ) (ps : List Piece) → mismatch [] end ps ≡ None → ps ≡ []
 no_more end [] h = refl
-no_more end (x ∷ xs) h = absurd (none_some x.place h)
+no_more end (x ∷ xs) h = cc
 
 -- a number that was not at fault was read
 readable : (x : Piece) (xs : List Piece) → misnumbered (x ∷ xs) ≡ None → numeral x.bytes ≡ true → (is_some (read x.bytes) ≡ true) × (misnumbered xs ≡ None)
 readable x xs h is =
     ⊎_elim
     (λ e. (e, sym (cond-false _ _ _ (and_right _ _ (not_from_true _ e))) ∙ h))
-    (λ e. absurd (none_some x.place (sym (cond-true _ _ _ (and_from _ _ is (not_from_false _ e))) ∙ h)))
+    (λ e. let none : Some x.place ≡ None = sym (cond-true _ _ _ (and_from _ _ is (not_from_false _ e))) ∙ h in cc)
     (cases_Bool (is_some (read x.bytes)))
 
 sorts_ok : (o : Option ℕ) (r : Result Form Flaw) (f : Form) → sorts_of o r ≡ Ok f → (o ≡ None) × (r ≡ Ok f)
 sorts_ok None r f h = (refl, h)
-sorts_ok (Some b) r f h = absurd (err_ok _ _ h)
+sorts_ok (Some b) r f h = cc
 
 numbers_ok : (o : Option ℕ) (g f : Form) → numbers_of o g ≡ Ok f → (o ≡ None) × (g ≡ f)
 numbers_ok None g f h = (refl, cc)
-numbers_ok (Some b) g f h = absurd (err_ok _ _ h)
+numbers_ok (Some b) g f h = cc
 
 -- the pieces of a quote are its three numbers as they are written
 three_written : (end n t c : ℕ) (ps : List Piece) → quote_of end ps ≡ Ok (Quote n t c) → map (λ x. x.bytes) ps ≡ decimal n ∷ decimal t ∷ decimal c ∷ []
@@ -111,19 +103,19 @@ three_written end n t c ps h =
 
 -- the word and what follows it
 word_written : (end n t c : ℕ) (ps : List Piece) → word_of end ps ≡ Ok (Quote n t c) → map (λ x. x.bytes) ps ≡ codes "quote" ∷ decimal n ∷ decimal t ∷ decimal c ∷ []
-word_written end n t c [] h = absurd (err_ok _ _ h)
+word_written end n t c [] h = cc
 word_written end n t c (w ∷ ps) h =
     ⊎_elim
-    (λ e. (λ k. same_from w.bytes (codes "quote") e k ∷ three_written end n t c ps (sym (cond-true _ _ _ e) ∙ h) k))
-    (λ e. absurd (err_ok _ _ (sym (cond-false _ _ _ e) ∙ h)))
-    (cases_Bool (same w.bytes (codes "quote")))
+    (λ e. (λ k. (bytes_eq-Decides w.bytes (codes "quote")).0 e k ∷ three_written end n t c ps (sym (cond-true _ _ _ e) ∙ h) k))
+    (λ e. let other : Err (UnknownWord w.place) ≡ Ok (Quote n t c) = sym (cond-false _ _ _ e) ∙ h in cc)
+    (cases_Bool (bytes_eq w.bytes (codes "quote")))
 
 -- the last byte of a form closes it
 none_left : (d b : ℕ) → after (suc d) b ≡ 0 → b ≡ 41
 none_left d b h = grind (arith, nat_tests)
 
 closed_last : (d : ℕ) (bs : List ℕ) → closes (suc d) bs ≡ true → (front : List ℕ) × (bs ≡ front ++ 41 ∷ [])
-closed_last d [] h = let z : ◌≡◌ {A = ℕ} 0 1 = cc in absurd (omega arith)
+closed_last d [] h = cc
 closed_last d (b ∷ bs) h =
     ⊎_elim
     (λ e.
@@ -136,7 +128,7 @@ closed_last d (b ∷ bs) h =
     (cases_eq (after (suc d) b) 0)
 
 bracketed : (line : List ℕ) → fills line ≡ true → (text : List ℕ) × (line ≡ 40 ∷ (text ++ 41 ∷ []))
-bracketed [] h = let z : ◌≡◌ {A = ℕ} 0 1 = cc in absurd (omega arith)
+bracketed [] h = cc
 bracketed (b ∷ bs) h =
     let p = and_parts (eqb b 40) (closes 0 (b ∷ bs)) h in
     let opens = eqb-true b 40 p.0 in
@@ -144,9 +136,9 @@ bracketed (b ∷ bs) h =
     (rest.0, (λ k. opens k ∷ rest.1 k))
 
 -- what was cut is what its pieces make
-joined : (text : List ℕ) (x : List ℕ) (xs : List (List ℕ)) → map (λ p. p.bytes) (inside text) ≡ x ∷ xs → text ≡ join (x ∷ xs)
-joined [] x xs h = let z : ◌≡◌ {A = ℕ} 0 1 = cc in absurd (omega arith)
-joined (b ∷ bs) x xs h = sym (cut_whole 0 (b ∷ bs)) ∙ ap join (sym (bytes_placed 2 (cut 0 (b ∷ bs))) ∙ h)
+joined : (text : List ℕ) (x : List ℕ) (xs : List (List ℕ)) → map (λ p. p.bytes) (inside text) ≡ x ∷ xs → text ≡ join_with_byte 32 (x ∷ xs)
+joined [] x xs h = cc
+joined (b ∷ bs) x xs h = sym (cut_whole 0 (b ∷ bs)) ∙ ap (join_with_byte 32) (sym (bytes_placed 2 (cut 0 (b ∷ bs))) ∙ h)
 
 pub reads_only : (last n t c : ℕ) (line : List ℕ) → form_of last line ≡ Ok (Quote n t c) → line ≡ quote_line n t c
 reads_only last n t c line h =
@@ -158,5 +150,5 @@ reads_only last n t c line h =
     let between = ap inner text.1 ∙ inner_of text.0 in
     let is = joined text.0 _ _ (ap (λ l. map (λ p. p.bytes) (inside l)) (sym between) ∙ words) in
     text.1 ∙ ap (λ l. 40 ∷ (l ++ 41 ∷ [])) is ∙ sym (quote_bracketed n t c))
-    (λ e. absurd (err_ok _ _ (sym (cond-false _ _ _ e) ∙ h)))
+    (λ e. let other : Err NotAForm ≡ Ok (Quote n t c) = sym (cond-false _ _ _ e) ∙ h in cc)
     (cases_Bool (whole last line))

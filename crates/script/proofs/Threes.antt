@@ -3,9 +3,9 @@ use Rattle.std.proofs.Common.{◌≡◌, ℕ, ◌+◌, ◌<◌, Bool, true, fals
 use Rattle.std.specs.Option.{ok_or}
 use Rattle.std.proofs.lemmas.Bool.{cond-true, cond-false, not-true}
 use Rattle.script.specs.declared.flaws.Flaw.{Flaw}
-use Rattle.script.specs.declared.flaws.Flaw.TheVariants.{WrongNumber}
+use Rattle.script.specs.declared.flaws.Flaw.TheVariants.{WrongItem, WrongNumber}
 use Rattle.script.specs.declared.items.Part.{Part}
-use Rattle.script.specs.Forms.{Piece, piece, placed, following, mismatch, three_numerals, next_place, is_no_number, NextNumber, ThreeNumbers, quote_of}
+use Rattle.script.specs.Forms.{Piece, placed, following, mismatch, three_numerals, next_place, is_no_number, NextNumber, ThreeNumbers, Misses, quote_of}
 use Rattle.script.specs.Numerals.{numeral, read}
 use Rattle.script.proofs.Cuts.{cut_front}
 
@@ -30,37 +30,40 @@ module _ {end : ℕ} {xs : List Piece} {left : List (List ℕ → Bool)} {p : �
         ends = r.ends ∙ sym h.long;
       })
 
-  pub stops : Reached end xs (numeral ∷ left) p rest → is_no_number rest ≡ true → mismatch three_numerals end xs ≡ Some (next_place p rest)
-  stops r other = r.same ∙ ap (λ e. mismatch (numeral ∷ left) e (following p rest)) r.ends ∙ none rest other
+  pub stops : (e : Flaw) → Reached end xs (numeral ∷ left) p rest → (e ≡ WrongItem (next_place p rest)) × (is_no_number rest ≡ true) → Misses end xs e
+  stops e r h = record { at = next_place p rest; is = h.0; miss = r.same ∙ ap (λ e. mismatch (numeral ∷ left) e (following p rest)) r.ends ∙ none rest h.1 }
     where
       none : (rest : List ℕ) → is_no_number rest ≡ true → mismatch (numeral ∷ left) (p + length rest) (following p rest) ≡ Some (next_place p rest)
       none [] other = ap Some (add-zero p)
       none (b ∷ bs) other = ap (λ ps. mismatch (numeral ∷ left) (p + length (b ∷ bs)) (placed (p + 1) ps)) (cut_front 0 bs) ∙ cond-false _ _ _ (not-true _ other)
 
-pub one_too_many : {end : ℕ} {xs : List Piece} {p : ℕ} {rest : List ℕ} → Reached end xs [] p rest → 0 < length rest → mismatch three_numerals end xs ≡ Some (p + 1)
-one_too_many {end} {xs} {p} {rest} r some = r.same ∙ extra rest some
+pub one_too_many : {end : ℕ} {xs : List Piece} {p : ℕ} {rest : List ℕ} (e : Flaw) → Reached end xs [] p rest → (e ≡ WrongItem (p + 1)) × (0 < length rest) → Misses end xs e
+one_too_many {end} {xs} {p} {rest} e r h = record { at = p + 1; is = h.0; miss = r.same ∙ extra rest h.1 }
   where
     extra : (rest : List ℕ) → 0 < length rest → mismatch [] end (following p rest) ≡ Some (p + 1)
     extra [] none = absurd (omega arith)
     extra (b ∷ bs) _ = ap (λ ps. mismatch [] end (placed (p + 1) ps)) (cut_front 0 bs)
 
--- a first piece, and what follows it at the place q that the code has for its end
-pub first_then : {ps : List Piece} {q : ℕ} (x : Part) (more : List ℕ) → q ≡ past x → ps ≡ piece x ∷ following (past x) more → ps ≡ piece x ∷ following q more
-first_then x more is h = h ∙ ap (λ p. piece x ∷ following p more) (sym is)
-
 -- a number that was read, and one that was not
 was_read : (o : Option ℕ) (f : Flaw) (u : ℕ) → ◌≡◌ {A = Result ℕ Flaw} (Ok u) (ok_or o f) → is_some o ≡ true
-was_read None f u e = let z : ◌≡◌ {A = ℕ} 0 1 = cc in absurd (omega arith)
+was_read None f u e = cc
 was_read (Some v) f u e = refl
 
 was_refused : (o : Option ℕ) (f e : Flaw) → ◌≡◌ {A = Result ℕ Flaw} (Err e) (ok_or o f) → (is_some o ≡ false) × (e ≡ f)
 was_refused None f e is = (refl, cc)
-was_refused (Some v) f e is = let z : ◌≡◌ {A = ℕ} 0 1 = cc in absurd (omega arith)
+was_refused (Some v) f e is = cc
 
--- the third number is wrong, and the others are not
-pub third_wrong : (end : ℕ) (xs : List Piece) (x y z : Part) (u v : ℕ) (e : Flaw) → ThreeNumbers xs x y z → ◌≡◌ {A = Result ℕ Flaw} (Ok u) (ok_or (read x.bytes.now) (WrongNumber x.place)) → ◌≡◌ {A = Result ℕ Flaw} (Ok v) (ok_or (read y.bytes.now) (WrongNumber y.place)) → ◌≡◌ {A = Result ℕ Flaw} (Err e) (ok_or (read z.bytes.now) (WrongNumber z.place)) → Err e ≡ quote_of end xs
-third_wrong end xs x y z u v e h p q w =
-    let a = was_read _ _ _ p in
-    let b = was_read _ _ _ q in
-    let d = was_refused _ _ _ w in
-    rw (h.pieces, h.first, h.second, h.third, a, b, d.0) (ap Err d.1)
+-- the first of three numbers that is wrong is the second, or the third
+module _ (end : ℕ) (xs : List Piece) (x y z : Part) (h : ThreeNumbers xs x y z) (u : ℕ) (first : ◌≡◌ {A = Result ℕ Flaw} (Ok u) (ok_or (read x.bytes.now) (WrongNumber x.place))) (e : Flaw) where
+  pub second_wrong : ◌≡◌ {A = Result ℕ Flaw} (Err e) (ok_or (read y.bytes.now) (WrongNumber y.place)) → Err e ≡ quote_of end xs
+  second_wrong wrong =
+      let a = was_read _ _ _ first in
+      let b = was_refused _ _ _ wrong in
+      rw (h.pieces, h.first, h.second, h.third, a, b.0) (ap Err b.1)
+
+  pub third_wrong : (v : ℕ) → ◌≡◌ {A = Result ℕ Flaw} (Ok v) (ok_or (read y.bytes.now) (WrongNumber y.place)) → ◌≡◌ {A = Result ℕ Flaw} (Err e) (ok_or (read z.bytes.now) (WrongNumber z.place)) → Err e ≡ quote_of end xs
+  third_wrong v second wrong =
+      let a = was_read _ _ _ first in
+      let b = was_read _ _ _ second in
+      let d = was_refused _ _ _ wrong in
+      rw (h.pieces, h.first, h.second, h.third, a, b, d.0) (ap Err d.1)

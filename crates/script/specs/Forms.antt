@@ -2,6 +2,7 @@
 --   Piece         a piece of a line between spaces, with the place of its first byte
 --   cut           a text, cut at its spaces outside brackets; d brackets are open before it
 --   placed        pieces with their places, one space between each two, the first at place p
+--   pieces_at     the pieces of a text that begins at place p; nothing is no piece, and not an empty one
 --   following     the pieces after an item that ends before place p: none at the end, else what follows the space
 --   mismatch      the place of the first piece at fault, where a form wants pieces that pass these tests and no more;
 --                 a missing one is at the closing bracket, whose place is `end`
@@ -9,12 +10,13 @@
 --   quote_of      the quote form of these pieces, or its flaw: any mismatch goes before any misnumbered piece
 --   word_of       the form that the first piece names, of the others; the closing bracket stands at `end`
 --   inner         what stands between the brackets of a line
---   inside        the pieces there, the first at place 2; nothing is no piece, and not an empty one
+--   inside        the pieces there, the first at place 2
 --   whole         a line of at most 200 bytes that is one bracketed form, and whose last byte is among the script's first
 --                 32,768; that byte's number in the script is `last`
 --   form_of       the form that a line holds, or its flaw
-use Rattle.std.specs.Prelude.{◌≡◌, ℕ, ◌+◌, ◌-◌, Bool, true, false, cond, not, ◌&&◌, List, [], ◌∷◌, map, length, is_some, Some, None, Ok, Err, codes, Option, Result, ◌==◌, ◌≢◌, nat_le, slice_index_or}
+use Rattle.std.specs.Prelude.{◌≡◌, ℕ, ◌+◌, ◌-◌, Bool, true, if◌then◌else◌, not, ◌&&◌, List, [], ◌∷◌, map, length, is_some, Some, None, Ok, Err, codes, Option, Result, ◌==◌, nat_le, slice_index_or}
 use Rattle.std.specs.List.{between}
+use Rattle.std.specs.Str.{bytes_eq}
 use Rattle.script.specs.declared.flaws.Flaw.{Flaw}
 use Rattle.script.specs.declared.flaws.Flaw.TheVariants.{NotAForm, UnknownWord, WrongItem, WrongNumber}
 use Rattle.script.specs.declared.forms.Form.{Form}
@@ -35,11 +37,15 @@ onto b (x ∷ xs) = (b ∷ x) ∷ xs
 
 abbrev pub cut : ℕ → List ℕ → List (List ℕ)
 cut d [] = [] ∷ []
-cut d (b ∷ bs) = cond (d == 0 && b == 32) ([] ∷ cut 0 bs) (onto b (cut (after d b) bs))
+cut d (b ∷ bs) = if d == 0 && b == 32 then [] ∷ cut 0 bs else onto b (cut (after d b) bs)
 
 abbrev pub placed : ℕ → List (List ℕ) → List Piece
 placed p [] = []
 placed p (x ∷ xs) = record { place = p; bytes = x } ∷ placed (p + length x + 1) xs
+
+abbrev pub pieces_at : ℕ → List ℕ → List Piece
+pieces_at p [] = []
+pieces_at p (b ∷ bs) = placed p (cut 0 (b ∷ bs))
 
 abbrev pub following : ℕ → List ℕ → List Piece
 following p [] = []
@@ -49,11 +55,11 @@ abbrev pub mismatch : List (List ℕ → Bool) → ℕ → List Piece → Option
 mismatch [] end [] = None
 mismatch [] end (x ∷ xs) = Some x.place
 mismatch (wanted ∷ more) end [] = Some end
-mismatch (wanted ∷ more) end (x ∷ xs) = cond (wanted x.bytes) (mismatch more end xs) (Some x.place)
+mismatch (wanted ∷ more) end (x ∷ xs) = if wanted x.bytes then mismatch more end xs else Some x.place
 
 abbrev pub misnumbered : List Piece → Option ℕ
 misnumbered [] = None
-misnumbered (x ∷ xs) = cond (numeral x.bytes && not (is_some (read x.bytes))) (Some x.place) (misnumbered xs)
+misnumbered (x ∷ xs) = if numeral x.bytes && not (is_some (read x.bytes)) then Some x.place else misnumbered xs
 
 -- the value of the k-th piece, from 0
 abbrev pub value : List Piece → ℕ → ℕ
@@ -73,20 +79,12 @@ three_numerals = numeral ∷ numeral ∷ numeral ∷ []
 abbrev pub quote_of : ℕ → List Piece → Result Form Flaw
 quote_of end xs = sorts_of (mismatch three_numerals end xs) (numbers_of (misnumbered xs) (Quote (value xs 0) (value xs 1) (value xs 2)))
 
--- whether two texts are the same
-abbrev pub same : List ℕ → List ℕ → Bool
-same [] [] = true
-same [] (y ∷ ys) = false
-same (x ∷ xs) [] = false
-same (x ∷ xs) (y ∷ ys) = x == y && same xs ys
-
 abbrev pub word_of : ℕ → List Piece → Result Form Flaw
 word_of end [] = Err (WrongItem end)
-word_of end (x ∷ xs) = cond (same x.bytes (codes "quote")) (quote_of end xs) (Err (UnknownWord x.place))
+word_of end (x ∷ xs) = if bytes_eq x.bytes (codes "quote") then quote_of end xs else Err (UnknownWord x.place)
 
 abbrev pub inside : List ℕ → List Piece
-inside [] = []
-inside (b ∷ bs) = placed 2 (cut 0 (b ∷ bs))
+inside bs = pieces_at 2 bs
 
 abbrev pub inner : List ℕ → List ℕ
 inner line = between 1 (length line - 1) line
@@ -95,7 +93,7 @@ abbrev pub whole : ℕ → List ℕ → Bool
 whole last line = nat_le (length line) 200 && (nat_le last 32768 && fills line)
 
 abbrev pub form_of : ℕ → List ℕ → Result Form Flaw
-form_of last line = cond (whole last line) (word_of (length line) (inside (inner line))) (Err NotAForm)
+form_of last line = if whole last line then word_of (length line) (inside (inner line)) else Err NotAForm
 
 -- What the readers of numbers say, where `rest` is empty or begins with the space at `place`.
 --   next_place     where the next piece begins, or would
@@ -129,8 +127,3 @@ pub record Misses (end : ℕ) (xs : List Piece) (e : Flaw) : Type 0 where
   pub at : ℕ
   pub is : e ≡ WrongItem at
   pub miss : mismatch three_numerals end xs ≡ Some at
-
--- What the first word selects, where `rest` follows it.
-pub record ByWord (w : Piece) (rest : List ℕ) (r : Result Form Flaw) : Type 0 where
-  pub quote : w.bytes ≡ codes "quote" → r ≡ quote_of (w.place + length w.bytes + length rest) (following (w.place + length w.bytes) rest)
-  pub other : (w.bytes ≢ codes "quote") → r ≡ Err (UnknownWord w.place)

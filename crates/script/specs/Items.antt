@@ -4,7 +4,7 @@
 --   word     an item that is not empty, not digits alone and not one bracketed form
 --   Sorted   an item is of the sort that it is said to be
 --   Reads    an item was read from the front of a text, at a place of its line, and no byte was lost
-use Rattle.std.specs.Prelude.{◌≡◌, ℕ, suc, ◌<◌, Bool, true, cond, not, ◌&&◌, ◌⊎◌, List, [], ◌∷◌, ◌++◌, length, take, ◌==◌, nat_lt, slice_index}
+use Rattle.std.specs.Prelude.{◌≡◌, ℕ, suc, ◌<◌, Bool, true, if◌then◌else◌, not, ◌&&◌, ◌⊎◌, List, [], ◌∷◌, ◌++◌, length, take, ◌==◌, nat_lt, slice_index}
 use Rattle.script.specs.declared.items.Item.{Item}
 use Rattle.script.specs.declared.items.Item.TheVariants.{Word, Number, Form}
 use Rattle.script.specs.declared.items.Part.{Part}
@@ -13,7 +13,7 @@ use Rattle.script.specs.Numerals.{numeral}
 
 abbrev pub span : ℕ → List ℕ → ℕ
 span d [] = 0
-span d (b ∷ bs) = cond (d == 0 && b == 32) 0 (suc (span (after d b) bs))
+span d (b ∷ bs) = if d == 0 && b == 32 then 0 else suc (span (after d b) bs)
 
 abbrev pub front : List ℕ → List ℕ
 front bs = take (span 0 bs) bs

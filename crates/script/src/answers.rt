@@ -5,18 +5,19 @@ ghost use Rattle.script.specs.Answers.{obeyed, answered, answer_text, flaw_text}
 
 use crate::flaws::{Fault, Flaw};
 use crate::forms::{Form, read_form};
+use refusal::Numbered;
 use setting::{Refusal, quote};
 use std::fmt;
 
 /// What a form that is obeyed is answered.
-#[derive(Clone, Copy)]
+#[derive(Clone, Copy, Debug, PartialEq, Eq)]
 pub enum Answer {
     /// The quoted round.
     Quote(u32),
 }
 
 /// A line of a script, with its number and that of its last byte in the script, both from 1.
-#[derive(Clone, Copy)]
+#[derive(Clone, Copy, Debug, PartialEq, Eq)]
 pub struct Line<'a> {
     pub number: u64,
     pub last: usize,
@@ -54,13 +55,10 @@ fn reply(line: Line<'_>) -> Result<Answer, Flaw>
 pub fn answer_line(line: Line<'_>) -> Result<Answer, Fault>
     ensures { MatchResult result (λ a. answered line.entry.last line.entry.bytes.now ≡ Ok a) (λ f. (answered line.entry.last line.entry.bytes.now ≡ Err f.flaw) × (f.line ≡ line.entry.number)) }
 {
-    match reply(line) {
-        Ok(answer) => Ok(answer),
-        Err(flaw) => Err(Fault {
-            line: line.number,
-            flaw,
-        }),
-    }
+    reply(line).map_err(|flaw| Fault {
+        line: line.number,
+        flaw,
+    })
 }
 
 impl fmt::Display for Answer {

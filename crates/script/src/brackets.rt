@@ -18,9 +18,10 @@ pub(crate) fn depth_after(open: usize, b: u8) -> usize
 pub(crate) fn is_form(text: &[u8]) -> bool
     ensures { result ≡ fills text.now }
 {
-    if text.is_empty() || text[0] != b'(' {
+    if !text.starts_with(b"(") {
         return false;
     }
+    // As a chain this is a `scan` that carries the depth by `&mut`, and a `position` after it: no plainer.
     let mut depth = 0;
     for (i, b) in text.iter().enumerate() {
         depth = depth_after(depth, *b);

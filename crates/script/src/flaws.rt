@@ -1,11 +1,13 @@
 // What can be wrong with a line of a script.
 ghost use Rattle.std.specs.Prelude.{◌≡◌};
 ghost use Rattle.script.specs.Flaws.{numbered, placed, byte_of};
+ghost use Rattle.std.proofs.Common.{rules, arith};
 
+use refusal::Numbered;
 use setting::Refusal;
 
 /// What is wrong with a line. A byte's place counts from 1.
-#[derive(Clone, Copy)]
+#[derive(Clone, Copy, Debug, PartialEq, Eq)]
 pub enum Flaw {
     /// Not one bracketed form filling the line, over 200 bytes, or past byte 32,768 of the script.
     NotAForm,
@@ -19,10 +21,14 @@ pub enum Flaw {
     Refused(Refusal),
 }
 
-impl Flaw {
-    pub fn number(&self) -> u32
-        ensures { result ≡ numbered self.now }
-    {
+impl Numbered for Flaw {
+    ghost numbered = { numbered };
+
+    ghost placed = { placed };
+
+    ghost apart = { Prim.search (rules, arith) };
+
+    fn number(&self) -> u32 {
         match self {
             Flaw::NotAForm => 81,
             Flaw::UnknownWord(_) => 82,
@@ -33,15 +39,15 @@ impl Flaw {
     }
 
     /// The position that is written beside the number: the byte at fault, or the refusal's own position.
-    pub fn position(&self) -> usize
-        ensures { result ≡ placed self.now }
-    {
+    fn position(&self) -> usize {
         match self {
-            Flaw::Refused(refusal) => refusal.position() as usize,
+            Flaw::Refused(refusal) => refusal.position(),
             _ => self.byte(),
         }
     }
+}
 
+impl Flaw {
     /// The byte of the line at fault; a form that was refused is so as a whole, and begins at byte 1.
     pub fn byte(&self) -> usize
         ensures { result ≡ byte_of self.now }
@@ -54,7 +60,7 @@ impl Flaw {
 }
 
 /// A flaw together with the number of its line in the script, from 1.
-#[derive(Clone, Copy)]
+#[derive(Clone, Copy, Debug, PartialEq, Eq)]
 pub struct Fault {
     pub line: u64,
     pub flaw: Flaw,

@@ -6,14 +6,14 @@ use crate::brackets::{depth_after, is_form};
 use crate::numerals::is_number;
 
 /// A part of a line, with the place of its first byte in the line, from 1.
-#[derive(Clone, Copy)]
+#[derive(Clone, Copy, Debug, PartialEq, Eq)]
 pub struct Part<'a> {
     pub bytes: &'a [u8],
     pub place: usize,
 }
 
 /// What stands between two spaces: each item is a part of its line.
-#[derive(Clone, Copy)]
+#[derive(Clone, Copy, Debug, PartialEq, Eq)]
 pub enum Item<'a> {
     Word(Part<'a>),
     /// Decimal digits and nothing else.
@@ -27,6 +27,7 @@ fn item_len(text: &[u8]) -> usize
     ensures value { result ≡ span 0 text.now }
     ensures bound { result ≤ length text.now }
 {
+    // As a chain this is a `position` whose closure changes the depth after each answer: no plainer.
     let mut depth = 0;
     for (i, b) in text.iter().enumerate() {
         if depth == 0 && *b == b' ' {

@@ -7,6 +7,7 @@ mod flaws;
 mod forms;
 mod items;
 mod numerals;
+mod rests;
 mod sessions;
 
 pub use answers::{Answer, Line, answer_line};

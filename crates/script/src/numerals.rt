@@ -1,27 +1,28 @@
 // Numbers as the script writes them.
 ghost use Rattle.std.specs.Prelude.{◌≡◌};
-ghost use Rattle.script.specs.Numerals.{numeral, plain, read};
-
-/// The largest number that is read.
-const LARGEST: u64 = 4_294_967_295;
+ghost use Rattle.script.specs.Numerals.{numeral, plain, one_more, within, read};
 
 /// Whether `text` is one or more decimal digits and nothing else.
 pub(crate) fn is_number(text: &[u8]) -> bool
     ensures { result ≡ numeral text.now }
 {
-    for b in text {
-        if !b.is_ascii_digit() {
-            return false;
-        }
-    }
-    !text.is_empty()
+    !text.is_empty() && text.iter().all(|b| b.is_ascii_digit())
 }
 
 /// Whether no zero stands in front of another digit.
 fn is_plain(digits: &[u8]) -> bool
     ensures { result ≡ plain digits.now }
 {
-    digits.len() <= 1 || digits[0] != b'0'
+    !matches!(digits, [b'0', _, ..])
+}
+
+/// The number that has one digit more than `front`; none where it is above 4,294,967,295.
+fn with_digit(front: u32, digit: u8) -> Option<u32>
+    ensures { result ≡ within (one_more front digit) }
+{
+    front
+        .checked_mul(10)?
+        .checked_add(u32::from(digit.saturating_sub(b'0')))
 }
 
 /// The number that the digits write; none where a zero stands in front of another digit, or the number is above 4,294,967,295.
@@ -31,12 +32,5 @@ pub(crate) fn value_of(digits: &[u8]) -> Option<u32>
     if !is_plain(digits) {
         return None;
     }
-    let mut sum: u64 = 0;
-    for b in digits {
-        sum = sum * 10 + u64::from(b.saturating_sub(b'0'));
-        if sum > LARGEST {
-            return None;
-        }
-    }
-    Some(sum as u32)
+    digits.iter().copied().try_fold(0, with_digit)
 }

@@ -1,11 +1,9 @@
-use Rattle.std.proofs.Common.{◌+◌, length, codes, ap, ◌∙◌, rules}
-use Rattle.script.specs.Forms.{quote_of, following}
-use Rattle.script.proofs.Spelling.{spelled}
+use Rattle.std.proofs.Common.{codes, sym, ◌∙◌, rules}
+use Rattle.std.proofs.lemmas.Bool.{cond-true}
+use Rattle.std.proofs.lemmas.Slice.Eq.{bytes_eq-Decides, text_from_reads}
 use Rattle.script.proofs.forms.read_by_word.Goals as goal
 
 pub returns-in-quote : goal.returns-in-quote
 returns-in-quote c =
-    record {
-      quote = λ _. c.read_quote.ensures ∙ ap (λ p. quote_of (p + length c.args.rest.now) (following p c.args.rest.now)) c.end.ensures;
-      other = λ not. absurd (not (spelled c.args.word.bytes.now (codes "quote") (search rules) (search rules)));
-    }
+    let word = text_from_reads c.args.word.bytes.now (codes "quote") (search rules) (search rules) in
+    c.read_quote.ensures ∙ sym (cond-true _ _ _ ((bytes_eq-Decides c.args.word.bytes.now (codes "quote")).1 word))

@@ -1,20 +1,15 @@
-use Rattle.std.proofs.Common.{◌≡◌, Err, sym, ap, ◌∙◌}
+use Rattle.std.proofs.Common.{◌≡◌, ◌+◌, length, sym, ◌∙◌, arith}
 use Rattle.std.proofs.lemmas.Bool.{cond-true, cond-false}
-use Rattle.script.specs.declared.flaws.Flaw.TheVariants.{NotAForm}
-use Rattle.script.specs.Forms.{word_of, inside, inner, form_of}
-use Rattle.script.proofs.Lines.{inner_long}
+use Rattle.script.specs.Forms.{word_of, pieces_at}
 use Rattle.script.proofs.Quotes.{reads_quotes}
 use Rattle.script.proofs.forms.read_form.Goals as goal
 
-pub returns-then-not-is_whole : goal.returns-then-not-is_whole
-returns-then-not-is_whole c =
-    let is : Err NotAForm ≡ form_of c.args.last c.args.line.now = sym (cond-false _ _ _ (sym c.if-not-is_whole.ensures.value)) in
+pub returns-in-Some : goal.returns-in-Some
+returns-in-Some c =
+    let text = c.in-Some.ensures in
+    let end : c.in-Some.text.place + length c.in-Some.text.bytes.now ≡ length c.args.line.now = omega arith in
+    let is = c.read_inside.ensures ∙ (λ k. word_of (end k) (pieces_at (text.place.0 k) (text.bytes k))) ∙ sym (cond-true _ _ _ (sym c.if-is_whole.ensures)) in
     record { value = is; quotes = reads_quotes _ _ _ is }
 
-pub returns : goal.returns
-returns c =
-    let line = c.args.line.now in
-    let h = c.if-not-is_whole.ensures in
-    let long = inner_long line (c.is_whole.ensures.bracketed c.if-not-is_whole.false) in
-    let is = c.read_inside.ensures ∙ ap (λ n. word_of n (inside (inner line))) long ∙ sym (cond-true _ _ _ (sym h.value)) in
-    record { value = is; quotes = reads_quotes _ _ _ is }
+pub returns-in_default-clause-quotes : goal.returns-in_default-clause-quotes
+returns-in_default-clause-quotes c = reads_quotes _ _ _ (sym (cond-false _ _ _ (sym c.if-is_whole.ensures)))

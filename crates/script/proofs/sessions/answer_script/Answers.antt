@@ -1,6 +1,6 @@
 use Rattle.std.proofs.Common.{[], ◌++◌, ◌∙◌, append-nil}
 use Rattle.script.specs.Sessions.{due}
-use Rattle.script.proofs.sessions.reading.answer_script.Goals as goal
+use Rattle.script.proofs.sessions.answer_script.Goals as goal
 
 pub returns : goal.returns
 returns c =
