@@ -2,31 +2,10 @@
 #![tactic(auto)]
 
 use script::Session;
-use std::io::{self, BufReader, Write};
+use std::io::{Read, Write};
 
 /// How much is read at a time.
 const PIECE_BYTES: usize = 16_384;
-
-/// Takes a script as it comes, and writes the answers to the lines that end in each part before it takes the next.
-#[derive(Drop)]
-struct Answering<W: Write> {
-    session: Session,
-    answers: String,
-    output: W,
-}
-
-impl<W: Write> Write for Answering<W> {
-    fn write(&mut self, part: &[u8]) -> io::Result<usize> {
-        self.session.feed(part, &mut self.answers)?;
-        self.output.write_all(self.answers.as_bytes())?;
-        self.answers.clear();
-        Ok(part.len())
-    }
-
-    fn flush(&mut self) -> io::Result<()> {
-        self.output.flush()
-    }
-}
 
 fn main(rt: HostRuntime) -> anyhow::Result<()> {
     run(&rt)
@@ -34,18 +13,21 @@ fn main(rt: HostRuntime) -> anyhow::Result<()> {
 
 fn run(rt: &HostRuntime) -> anyhow::Result<()> {
     let heap = rt.alloc();
-    let mut input = BufReader::with_capacity(heap, PIECE_BYTES, rt.stdin())?;
-    let mut answering = Answering {
-        session: Session::new(heap),
-        answers: String::new(heap),
-        output: rt.stdout(),
-    };
-    io::copy(&mut input, &mut answering)?;
-    let Answering {
-        session,
-        mut answers,
-        mut output,
-    } = answering;
+    let mut input = rt.stdin();
+    let mut output = rt.stdout();
+    let mut piece = vec![in heap; 0u8; PIECE_BYTES]?;
+    let mut answers = String::new(heap);
+    let mut session = Session::new(heap);
+    // Not `io::copy`, which would end with another message where memory is wanted; a loop has to end, so it counts.
+    for _ in 0..u64::MAX {
+        let len = input.read(piece.as_mut_slice())?;
+        if len == 0 {
+            break;
+        }
+        session.feed(&piece.as_slice()[0..len], &mut answers)?;
+        output.write_all(answers.as_bytes())?;
+        answers.clear();
+    }
     session.finish(&mut answers)?;
     output.write_all(answers.as_bytes())?;
     output.flush()?;

@@ -17,9 +17,6 @@ first_low g c =
     let b = code_bound c.args.setting.now.size c.args.setting.now.tolerance _ _ (g.met.O.Order.below c.args.order.now) g.met.O.Order.few c.args.setting.now.most in
     omega arith
 
-pub overflow_mul-first : goal.overflow_mul-first
-overflow_mul-first g c = let l = first_low g c in omega arith
-
 pub overflow_add-result : goal.overflow_add-result
 overflow_add-result g c =
     let l = first_low g (goal.at.overflow_add-result g c).After-chains_per_order in

@@ -3,15 +3,9 @@ use Rattle.chain.specs.declared.chains.Chains.{Chains}
 use Rattle.chain.specs.OfRing.{many}
 use Rattle.weight.specs.declared.knowns.Known.{Known}
 use Rattle.weight.specs.Cells.{holds}
-use Rattle.weight.proofs.Knowing.{KnownBelow, past_codes, no_chains, some_held, none_held, nothing_new, first_known, two_known, all_known}
+use Rattle.weight.proofs.Knowing.{KnownBelow, some_held, none_held, nothing_new, first_known, two_known}
 use Rattle.weight.proofs.knowns.known_order.Goals as goal
 use Rattle.weight.proofs.knowns.known_order.Goals.{then-any_taken+in-Nothing, else-any_taken}
-
-pub returns-then-chains-size : goal.returns-then-chains-size
-returns-then-chains-size c = let size = c.size.ensures.value in let past = c.if-chains-size.true in no_chains _ _ _ _ (omega arith)
-
-pub loop-code-init : goal.loop-code-init
-loop-code-init c m names low = absurd (omega arith)
 
 pub returns-in_default : goal.returns-in_default
 returns-in_default c =
@@ -49,6 +43,3 @@ loop-code-preserved c =
           subst next (sym w.known-is) (first_known (holds n t lead cells) code chain.0 chain.1 before)
       | else-any_taken w ↦ subst next (sym w.known-is) (nothing_new (holds n t lead cells) code c.loop-code.known (none_held n t lead cells code part low few same (c.any_taken.ensures.none w.if-any_taken.false)) c.loop-code.invariant)
     ]
-
-pub returns : goal.returns
-returns c = let end = c.loop-code-test.false in all_known _ (past_codes _ _ _ _) c.loop-code.code (omega arith) c.loop-code.known c.loop-code.invariant

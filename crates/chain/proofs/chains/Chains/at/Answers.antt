@@ -1,17 +1,8 @@
-use Rattle.std.proofs.Common.{◌/◌, sym, ap, ◌∙◌, arith}
+use Rattle.std.proofs.Common.{◌/◌, sym, ap, ◌∙◌}
 use Rattle.chain.specs.Places.{place_of}
 use Rattle.chain.proofs.FirstFaults.{some_none}
-use Rattle.chain.proofs.Numbering.{apart, some_chain, code_of, lead_low}
+use Rattle.chain.proofs.Numbering.{apart, code_of}
 use Rattle.chain.proofs.chains.Chains.at.Goals as goal
-
-pub returns-in_err-names : goal.returns-in_err-names
-returns-in_err-names g c =
-    let outside = c.in_err-names.ensures in
-    rw c.from_residual.ensures
-    (record { chain = tt; back = λ v names p is. let low = lead_low _ _ _ names p in absurd (omega arith) })
-
-pub nonzero_div-place : goal.nonzero_div-place
-nonzero_div-place g c = let value = c.chains_per_order-chains.ensures.value in let some = some_chain c.args.self.now.setting.size c.args.self.now.setting.tolerance in omega arith
 
 pub returns-in_err-order : goal.returns-in_err-order
 returns-in_err-order g c =

@@ -1,6 +1,6 @@
 use Rattle.std.proofs.Common.{◌+◌, ◌-◌, ◌<◌, sym, subst, arith}
 use Rattle.chain.specs.Ranks.{shorter}
-use Rattle.chain.proofs.Spelling.{not_longest, shortened_more, more_ways_low}
+use Rattle.chain.proofs.Spelling.{shortened_more, more_ways_low}
 use Rattle.chain.proofs.chains.Chains.length_at.Goals as goal
 use Rattle.chain.proofs.chains.Chains.length_at.Goals.{In-loop-among}
 
@@ -13,9 +13,6 @@ overflow_mul-among c =
     let most = c.size-free.ensures.most in
     let m = more_ways_low _ _ _ _ _ _ c.loop-among.invariant (low (goal.at.overflow_mul-among c).In-loop-among) c.loop-among-test.true (omega arith) in
     omega arith
-
-pub loop-among-smaller : goal.loop-among-smaller
-loop-among-smaller c = let l = not_longest _ _ _ _ _ _ c.loop-among.invariant (low (goal.at.loop-among-smaller c).In-loop-among) c.loop-among-test.true in omega arith
 
 pub loop-among-preserved : goal.loop-among-preserved
 loop-among-preserved c = shortened_more _ _ _ _ _ _ c.loop-among.invariant (low (goal.at.loop-among-preserved c).In-loop-among) c.loop-among-test.true

@@ -1,15 +1,7 @@
-use Rattle.std.proofs.Common.{◌+◌, ◌*◌, ◌/◌, ◌%◌, ◌<◌, sym, ap, ◌∙◌, subst, mod-lt, div-add-mod', arith}
+use Rattle.std.proofs.Common.{◌+◌, ◌*◌, ◌/◌, ◌%◌, ◌<◌, sym, ap, ◌∙◌, subst, div-add-mod', arith}
 use Rattle.chain.specs.Places.{per_order}
-use Rattle.chain.proofs.Numbering.{Chained, some_chain, spelled_chain}
+use Rattle.chain.proofs.Numbering.{Chained, spelled_chain}
 use Rattle.chain.proofs.chains.Chains.names_at.Goals as goal
-
-pub nonzero_rem-index : goal.nonzero_rem-index
-nonzero_rem-index c = subst (λ n. 0 < n) (sym c.chains_per_order.ensures.value) (some_chain _ _)
-
-pub length_at-requires : goal.length_at-requires
-length_at-requires c =
-    let some = subst (λ n. 0 < n) (sym c.chains_per_order.ensures.value) (some_chain _ _) in
-    subst (λ n. c.args.place % c.chains_per_order.result < n) c.chains_per_order.ensures.value (mod-lt c.args.place some)
 
 pub returns : goal.returns
 returns c =

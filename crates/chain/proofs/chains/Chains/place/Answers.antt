@@ -1,8 +1,8 @@
 use Rattle.std.proofs.Common.{◌≡◌, ◌+◌, ◌*◌, arith}
 use Rattle.std.proofs.lemmas.Result.{err_from_is_err_and}
-use Rattle.chain.specs.Places.{per_order, place_of}
+use Rattle.chain.specs.Places.{place_of}
 use Rattle.chain.proofs.Examples.{worked}
-use Rattle.chain.proofs.Numbering.{code_bound, place_below, place_bound, places}
+use Rattle.chain.proofs.Numbering.{place_below, place_bound, places}
 use Rattle.chain.proofs.chains.Chains.place.Given.{Over}
 use Rattle.chain.proofs.chains.Chains.place.Goals as goal
 use Rattle.chain.proofs.chains.Chains.place.Goals.{After-place_within}
@@ -14,12 +14,6 @@ returns-in_err-check g c =
 
 place_is : (g : Over) (c : After-place_within g) → c.code.result * c.chains_per_order.result + c.place_within.result ≡ place_of c.args.self.now.setting.size c.args.self.now.setting.tolerance (g.O.Order.coded c.args.order.now) c.args.names.now
 place_is g c = λ k. c.code.ensures k * c.chains_per_order.ensures.value k + c.place_within.ensures k
-
-pub overflow_mul-result : goal.overflow_mul-result
-overflow_mul-result g c =
-    let e : c.code.result * c.chains_per_order.result ≡ g.O.Order.coded c.args.order.now * per_order c.args.self.now.setting.size c.args.self.now.setting.tolerance = λ k. c.code.ensures k * c.chains_per_order.ensures.value k in
-    let b = code_bound c.args.self.now.setting.size c.args.self.now.setting.tolerance _ _ (g.met.O.Order.below c.args.order.now) g.met.O.Order.few c.args.self.now.setting.most in
-    omega arith
 
 pub overflow_add-result : goal.overflow_add-result
 overflow_add-result g c =

@@ -17,6 +17,3 @@ sum_is c =
 
 pub overflow_add-result : goal.overflow_add-result
 overflow_add-result c = let s = sum_is c in let b = within_bound _ _ _ _ c.requires c.args.self.now.setting.most in omega arith
-
-pub returns-in-len1-up : goal.returns-in-len1-up
-returns-in-len1-up c = sum_is c

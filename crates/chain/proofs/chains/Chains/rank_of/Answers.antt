@@ -1,5 +1,5 @@
 use Rattle.std.proofs.Common.{◌≡◌, ◌-◌, sym, refl, ap, subst, arith}
-use Rattle.chain.proofs.Ranking.{Ranking, ranking_none, name_low, free_some, next_low, next_ranking, ranked_all}
+use Rattle.chain.proofs.Ranking.{Ranking, ranking_none, free_some, next_low, next_ranking}
 use Rattle.chain.proofs.chains.Chains.rank_of.Goals as goal
 
 pub loop-name-init : goal.loop-name-init
@@ -10,9 +10,6 @@ loop-name-init c =
 pub overflow_mul-rank : goal.overflow_mul-rank
 overflow_mul-rank c = let l = next_low _ _ _ _ _ _ _ c.loop-name.invariant c.loop-name-test.true _ refl in omega arith
 
-pub missing_below-requires : goal.missing_below-requires
-missing_below-requires c = let l = name_low _ _ _ _ _ _ _ c.loop-name.invariant c.loop-name-test.true in let m = c.args.self.now.setting.most in omega arith
-
 pub overflow_add-rank : goal.overflow_add-rank
 overflow_add-rank c = let l = next_low _ _ _ _ _ _ _ c.loop-name.invariant c.loop-name-test.true _ c.missing_below.ensures in omega arith
 
@@ -21,6 +18,3 @@ overflow_sub-free-in-loop-name c = free_some _ _ _ _ _ _ _ c.loop-name.invariant
 
 pub loop-name-preserved : goal.loop-name-preserved
 loop-name-preserved c = next_ranking _ _ _ _ _ _ _ c.loop-name.invariant c.loop-name-test.true _ c.missing_below.ensures _ c.args.self.now.setting.most c.insert.ensures.put
-
-pub returns : goal.returns
-returns c = ranked_all _ _ _ _ _ _ _ c.loop-name.invariant c.loop-name-test.false
