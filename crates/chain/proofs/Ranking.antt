@@ -1,6 +1,6 @@
 -- The rank of names as they are read, digit by digit. Assumes nothing.
-use Rattle.std.proofs.Common.{◌≡◌, ℕ, ◌+◌, ◌-◌, ◌*◌, ◌^◌, ◌<◌, ◌≤◌, true, not, ◌&&◌, ◌||◌, eqb, ltb, List, [], ◌∷◌, length, get_or, drop, sym, refl, ap, ◌∙◌, subst, mul_assoc, add-mul, zero-mul, mul-one, le-mul_of_pos_right, arith}
-use Rattle.std.proofs.lemmas.List.{at_drop_more, at_drop_all}
+use Rattle.std.proofs.Common.{◌≡◌, ℕ, ◌+◌, ◌-◌, ◌*◌, ◌^◌, ◌<◌, ◌≤◌, true, not, ◌&&◌, ◌||◌, eqb, ltb, List, [], ◌∷◌, length, get_or, drop, sym, refl, ap, ◌∙◌, subst, mul_assoc, add-mul, zero-mul, le-mul_of_pos_right, arith}
+use Rattle.std.proofs.lemmas.List.{at_drop_more}
 use Rattle.std.proofs.lemmas.Bool.{and_from, lt-ltb}
 use Rattle.counting.specs.Lists.{has, tally}
 use Rattle.counting.proofs.Tallies.{tally_alike}
@@ -101,9 +101,3 @@ module _ (n lead : ℕ) (rest : List ℕ) (i : ℕ) (seen : NameSet) (free done 
           same = next_same;
           low = s.low;
         }
-
-pub ranked_all : (n lead : ℕ) (rest : List ℕ) (i : ℕ) (seen : NameSet) (free done : ℕ) → Ranking n lead rest i seen free done → length rest ≤ i → done ≡ rank (n - 1) (lead ∷ []) rest
-ranked_all n lead rest i seen free done s end =
-    let whole = sym (at_drop_all (λ l. done * ways free (length l) + rank free s.before l) rest i end) ∙ s.same in
-    let m = mul-one done in
-    omega arith

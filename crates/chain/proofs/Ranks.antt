@@ -18,13 +18,6 @@ tally_grows f m (suc d) =
     (λ no. let u = cond-false (f (m + d)) (suc (tally f (m + d))) (tally f (m + d)) no in omega arith)
     (cases_Bool (f (m + d)))
 
--- one number more is looked at
-pub tally_next : (f : ℕ → Bool) (q : ℕ) → f q ≡ true → tally f (q + 1) ≡ suc (tally f q)
-tally_next f q is = let e : q + 1 ≡ suc q = omega arith in ap (tally f) e ∙ cond-true (f q) (suc (tally f q)) (tally f q) is
-
-pub tally_stays : (f : ℕ → Bool) (q : ℕ) → f q ≡ false → tally f (q + 1) ≡ tally f q
-tally_stays f q is = let e : q + 1 ≡ suc q = omega arith in ap (tally f) e ∙ cond-false (f q) (suc (tally f q)) (tally f q) is
-
 pub tally_passes : (f : ℕ → Bool) (x y : ℕ) → f x ≡ true → x < y → tally f x < tally f y
 tally_passes f x y is less =
     let e = cond-true (f x) (suc (tally f x)) (tally f x) is in

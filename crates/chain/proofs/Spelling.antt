@@ -1,6 +1,6 @@
 -- The names of a rank as they are written, digit by digit. Assumes nothing.
 use Rattle.std.proofs.Common.{◌≡◌, ℕ, suc, ◌+◌, ◌-◌, ◌*◌, ◌/◌, ◌%◌, ◌<◌, ◌≤◌, true, false, not, ◌&&◌, ◌||◌, eqb, ltb, List, [], ◌∷◌, ◌++◌, length, sym, ap, ◌∙◌, subst, ⊎_elim, mul-le-mul_right, mod-lt, mul_comm, mul-zero, div-add-mod', zero-mul, refl, arith}
-use Rattle.std.proofs.lemmas.List.{append_assoc, append-nil, length-append}
+use Rattle.std.proofs.lemmas.List.{append_assoc, length-append}
 use Rattle.std.proofs.lemmas.Bool.{cases_lt, not_from_false, and_from, lt-ltb}
 use Rattle.counting.specs.Lists.{has, tally}
 use Rattle.counting.proofs.Tallies.{tally_alike}
@@ -126,8 +126,3 @@ module _ (n lead others rank i : ℕ) (names : List ℕ) (seen : NameSet) (free 
           same =
               (λ j. written j ++ spelled n (free - 1) (x ∷ s.before) (others - (i + 1)) (left % divided j)) ∙ append_assoc names (x ∷ []) rest ∙ sym (λ j. names ++ x_is j ∷ spelled n (free - 1) (x_is j ∷ s.before) (others - (i + 1)) (left % w)) ∙ sym (ap (λ k. names ++ spelled n free s.before k left) e) ∙ s.same;
         }
-
-pub spelled_all : (n lead others rank i : ℕ) (names : List ℕ) (seen : NameSet) (free way left : ℕ) → Spelling n lead others rank i names seen free way left → others ≤ i → names ≡ lead ∷ spelled n (n - 1) (lead ∷ []) others rank
-spelled_all n lead others rank i names seen free way left s end =
-    let e : others - i ≡ 0 = omega arith in
-    sym (append-nil names) ∙ sym (ap (λ k. names ++ spelled n free s.before k left) e) ∙ s.same

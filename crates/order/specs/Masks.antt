@@ -4,17 +4,13 @@ use Rattle.std.proofs.Math.Path.{sym}
 use Rattle.std.proofs.Common.{ap, subst, ◌∙◌, ⊎_elim, arith}
 use Rattle.std.specs.Int.{bit_at}
 use Rattle.std.specs.Int.Bits.{bit_or}
-use Rattle.std.proofs.lemmas.Nat.{shr_below}
-use Rattle.std.proofs.lemmas.Nat.Bits.{shr_and_one, bit_at-suc, bit_at-zero, same_from_bits_below, bit_at_or, bit_at-lt, bit_at-pow_same, bit_at-pow_other}
+use Rattle.std.proofs.lemmas.Nat.Bits.{shr_and_one, bit_at-zero, same_from_bits_below, bit_at_or, bit_at-lt, bit_at-pow_same, bit_at-pow_other}
 use Rattle.std.proofs.lemmas.Bool.{cases_Bool, cases_eq, cases_lt, cond-true, cond-false, eqb-false, eq-eqb, ne_eqb, or_left}
 use Rattle.order.specs.Sets.{has, Member, lowest, least}
 
 -- what the code tests
 pub bit_tested : (m k : ℕ) → bit_and (m / 2 ^ k) 1 ≡ m / 2 ^ k % 2
 bit_tested m k = shr_and_one m k
-
-pub has_half : (m k : ℕ) → has (m / 2) k ≡ has m (suc k)
-has_half m k = ap (λ x. nat_eq x 1) (sym (bit_at-suc m k))
 
 -- a mask without a bit is empty
 pub no_bits : (n m : ℕ) → m < 2 ^ n → ((k : ℕ) → k < n → has m k ≡ false) → m ≡ 0
@@ -94,12 +90,4 @@ has-bit_or m k j =
     ⊎_elim
     (λ here. eq-eqb _ 1 (bit_at_or m (2 ^ k) j ∙ (let one = bit_at-lt m j in let set = subst (λ i. bit_at (2 ^ k) i ≡ 1) (sym here) (bit_at-pow_same k) in omega arith)) ∙ sym (or_left (j == k) (has m j) (eq-eqb j k here)))
     (λ other. ap (λ x. nat_eq x 1) (bit_at_or m (2 ^ k) j ∙ (let none = bit_at-pow_other k j other in omega arith)) ∙ ap (λ b. b || has m j) (sym (ne_eqb j k other)))
-    (cases_eq j k)
-
--- a mask of one bit
-pub one_bit : (k j : ℕ) → has (2 ^ k) j ≡ (j == k)
-one_bit k j =
-    ⊎_elim
-    (λ here. eq-eqb _ 1 (subst (λ i. bit_at (2 ^ k) i ≡ 1) (sym here) (bit_at-pow_same k)) ∙ sym (eq-eqb j k here))
-    (λ other. ne_eqb _ 1 (λ is. let none = bit_at-pow_other k j other in omega arith) ∙ sym (ne_eqb j k other))
     (cases_eq j k)

@@ -2,15 +2,15 @@
 --   KnownBelow   what is known of the orders whose codes are below `code`
 use Rattle.std.proofs.Common.{◌≡◌, ℕ, ◌+◌, ◌*◌, ◌<◌, ◌≤◌, Bool, true, false, ◌&&◌, ltb, List, length, sym, refl, ap, ◌∙◌, ⊎_elim, arith}
 use Rattle.std.proofs.lemmas.Nat.{div-mul-add}
-use Rattle.std.proofs.lemmas.Bool.{true≢false, cases_Bool, cases_lt, and_parts, and_from, and_left, lt-ltb, le-ltb}
+use Rattle.std.proofs.lemmas.Bool.{true≢false, cases_Bool, cases_lt, and_parts, and_from, lt-ltb}
 use Rattle.chain.specs.Chains.{is_proper}
 use Rattle.chain.specs.Places.{per_order, place_of, within}
-use Rattle.chain.proofs.Numbering.{onto, lead_low, within_all}
+use Rattle.chain.proofs.Numbering.{onto, within_all}
 use Rattle.chain.proofs.ProperChains.{proper_from, proper_test}
 use Rattle.weight.specs.declared.cells.Cell.{Cell}
 use Rattle.weight.specs.declared.knowns.Known.{Known}
 use Rattle.weight.specs.declared.knowns.Known.TheVariants.{Nothing, Sole, Several}
-use Rattle.weight.specs.Cells.{taken_at, holds, Two, Knows}
+use Rattle.weight.specs.Cells.{taken_at, holds, Two}
 use Rattle.weight.proofs.TakenCells.{taken_past}
 
 abbrev pub KnownBelow : (ℕ → List ℕ → Bool) → ℕ → Known → Type 0
@@ -19,22 +19,6 @@ KnownBelow held code (Sole one) = (one < code) × ((names : List ℕ) × (held o
 KnownBelow held code Several = Two held
 
 module _ (n t lead : ℕ) (cells : List Cell) where
-  -- no kind of order has a seventeenth code
-  pub past_codes : (m : ℕ) (names : List ℕ) → 16 ≤ m → holds n t lead cells m names ≡ false
-  past_codes m names high = and_left _ _ (le-ltb m 16 high)
-
-  -- a lead that is not of the ring has no chains
-  pub no_chains : n ≤ lead → (m : ℕ) (names : List ℕ) → holds n t lead cells m names ≡ false
-  no_chains outside m names =
-      ⊎_elim
-      (λ on.
-      let a = and_parts (ltb m 16) (is_proper n t lead names && taken_at cells (place_of n t m names)) on in
-      let b = and_parts (is_proper n t lead names) (taken_at cells (place_of n t m names)) a.1 in
-      let inside = lead_low n t lead names (proper_from n t lead names b.0) in
-      absurd (omega arith))
-      (λ off. off)
-      (cases_Bool (holds n t lead cells m names))
-
   -- what the cells of one code say
   module _ (code : ℕ) (part : List Cell) (low : code < 16) (few : length part ≤ per_order n t) (same : (k : ℕ) → k < per_order n t → taken_at part k ≡ taken_at cells (code * per_order n t + k)) where
     -- a taken cell is that of a chain
@@ -73,9 +57,3 @@ module _ (held : ℕ → List ℕ → Bool) (code : ℕ) where
   two_known Nothing some names here k = absurd (some refl)
   two_known (Sole one) some names here k = let small = k.0 in record { m = one; m' = code; apart = λ e. omega arith; names = k.1.0; names' = names; here = k.1.1; here' = here }
   two_known Several some names here k = k
-
--- all codes have been looked at
-pub all_known : (held : ℕ → List ℕ → Bool) → ((m : ℕ) (names : List ℕ) → 16 ≤ m → held m names ≡ false) → (code : ℕ) → 16 ≤ code → (known : Known) → KnownBelow held code known → Knows held known
-all_known held past code end Nothing k = λ m names. ⊎_elim (λ low. k m names (omega arith)) (λ high. past m names high) (cases_lt m 16)
-all_known held past code end (Sole one) k = record { names = k.1.0; here = k.1.1; only = λ m names on. ⊎_elim (λ low. k.2 m names (omega arith) on) (λ high. absurd (true≢false (sym on ∙ past m names high))) (cases_lt m 16) }
-all_known held past code end Several k = k

@@ -22,9 +22,6 @@ taken_drop (suc s) (c ∷ cs) i = let e : suc (s + i) ≡ suc s + i = omega arit
 
 -- the part from `first` on of at most `count` cells, as far as there are any
 module _ (cells : List Cell) (first count start end : ℕ) (from : start ≡ min first (length cells)) (to : end ≡ min (start + count) (length cells)) where
-  pub part_few : length (take (end - start) (drop start cells)) ≤ count
-  part_few = let l = length-take (end - start) (drop start cells) in omega arith
-
   pub part_taken : (i : ℕ) → i < count → taken_at (take (end - start) (drop start cells)) i ≡ taken_at cells (first + i)
   part_taken i low =
       ⊎_elim
