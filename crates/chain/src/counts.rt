@@ -12,6 +12,7 @@ pub(crate) fn count_shorter(others: u32, count: u32) -> u32
     requires few { count ≤ others + 1 }
     ensures { result ≡ shorter others count }
 {
+    // A `fold` would carry both numbers as a pair.
     let mut total = 0;
     let mut ways = 1;
     for used in 0..count {

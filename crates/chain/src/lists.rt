@@ -3,7 +3,8 @@ ghost use Rattle.std.specs.Prelude.{◌≡◌, ◌+◌, ◌<◌, ◌≤◌, [], 
 
 use std::marker::Model;
 
-/// The names of a chain, the lead's first. They are kept inside, so no memory is asked for.
+/// The names of a chain, the lead's first. They are kept inside, so no memory is asked for. (The kit's `ArrayVec` can't be
+/// copied.)
 #[derive(Clone, Copy, Debug, PartialEq, Eq)]
 pub struct Names {
     /// The names, and zeros after them.

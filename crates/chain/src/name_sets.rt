@@ -91,6 +91,7 @@ impl NameSet {
         ensures new { in_set self result ≡ false }
         ensures place { tally (λ q. not (in_set self q)) result ≡ digit }
     {
+        // Not `filter` and `nth`, which answer an `Option` where there is such a name.
         let mut left = digit;
         for name in 0..size {
             if !self.contains(name) {

@@ -3,7 +3,7 @@
 --   distinct   no number stands in a list twice
 --   below      every number of a list is below n
 --   tally      how many numbers below n pass a test
---   alike      two lists are the same
+--   alike      two lists are the same (std has this as `bytes_eq`, which speaks of bytes)
 use Rattle.std.specs.Prelude.{ℕ, zero, suc, Bool, true, false, if◌then◌else◌, not, ◌&&◌, ◌||◌, List, [], ◌∷◌, ◌==◌, nat_lt}
 
 abbrev pub has : ℕ → List ℕ → Bool

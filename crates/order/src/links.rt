@@ -5,7 +5,7 @@ ghost use Rattle.std.proofs.Common.{rules, arith};
 
 use crate::kinds::Order;
 
-/// An order to one of the links 0 to 5.
+/// An order to one of the links 0 to 5: each can be opened and closed, so the flag is a value of its own.
 #[derive(Clone, Copy, Debug, PartialEq, Eq)]
 pub struct LinkOrder {
     link: u32,

@@ -61,6 +61,7 @@ impl Choice for Ranked {
         ensures value { result ≡ ranked self.now.ranks codes }
         ensures first { IfSome result (λ k. (j : ℕ) → j < 16 → has codes j ≡ true → slice_index self.now.ranks k ≤ slice_index self.now.ranks j) }
     {
+        // Not `filter` and `min_by_key`: the contract says which of equal ranks is taken, and their proof did not close.
         let mut best = None;
         for code in 0..16u32 {
             if codes >> code & 1 == 1 && self.is_before(code, best) {

@@ -11,7 +11,7 @@ use crate::parts::{MOST_CODES, Part};
 use chain::{Chains, NameSet};
 
 /// The weight of the order of a code: 0 if no chain of two or more names is held, and otherwise the greatest weight that a
-/// held chain bears.
+/// held chain bears. (No `Option`: 0 is a weight, the least, and a close compares weights.)
 pub fn weight(chains: &Chains, code: u32, cells: &[Cell]) -> u32
     ensures greatest { Weight chains.now.setting.size chains.now.setting.tolerance (holds_of chains.now cells.now code) result }
     ensures smaller { Smaller chains.now.setting.size chains.now.setting.tolerance }
@@ -34,6 +34,7 @@ impl Part<'_> {
         ensures { Seconds (held_of self.now.chains self.now.cells.now) (in_set result) }
     {
         let mut backers = NameSet::new();
+        // By number, since a place is one; the first is that of the lead alone.
         for at in 1..self.cells.len() {
             if self.cells[at].taken {
                 if let Some(names) = self.chains.names_at(at as u32) {
