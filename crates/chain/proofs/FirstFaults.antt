@@ -6,7 +6,8 @@ use Rattle.counting.proofs.Pushes.{has_push}
 use Rattle.chain.specs.declared.refusals.Refusal.{Refusal}
 use Rattle.chain.specs.declared.refusals.Refusal.TheVariants.{Length, Beyond, NotLead, Repeated}
 use Rattle.chain.specs.Chains.{Proper}
-use Rattle.chain.specs.Faults.{fault_of_name, or_else, first_fault, unfit}
+use Rattle.std.specs.Option.{option_or}
+use Rattle.chain.specs.Faults.{fault_of_name, first_fault, unfit}
 
 pub some_none : {A : Type 0} (x : A) → ◌≡◌ {A = Option A} (Some x) None → ⊥
 some_none x e = let z : ◌≡◌ {A = ℕ} 0 1 = cc in omega arith
@@ -58,14 +59,14 @@ push_parts (b ∷ bs) x y none =
     let rest = push_parts bs x y h.1 in
     (or_from _ _ h.0 rest.0, rest.1)
 
-or_else_none : (a b : Option Refusal) → or_else a b ≡ None → (a ≡ None) × (b ≡ None)
-or_else_none None b e = (refl, e)
-or_else_none (Some x) b e = absurd (some_none x e)
+option_or_none : (a b : Option Refusal) → option_or a b ≡ None → (a ≡ None) × (b ≡ None)
+option_or_none None b e = (refl, e)
+option_or_none (Some x) b e = absurd (some_none x e)
 
 pub good_from : (n lead place : ℕ) (before xs : List ℕ) → first_fault n lead place before xs ≡ None → Good n before xs
 good_from n lead place before [] none = record { low = refl; apart = refl; new = λ y is. absurd (both_ways false refl is) }
 good_from n lead place before (x ∷ xs) none =
-    let p = or_else_none (fault_of_name n lead place (has x before) x) _ none in
+    let p = option_or_none (fault_of_name n lead place (has x before) x) _ none in
     let f = fine_from n lead place before x p.0 in
     let g = good_from n lead (suc place) (before ++ x ∷ []) xs p.1 in
     let once : has x xs ≡ false = ⊎_elim (λ twice. absurd ((push_parts before x x (g.new x twice)).1 refl)) (λ out. out) (cases_Bool (has x xs)) in
@@ -86,7 +87,7 @@ good_none n lead place before (x ∷ xs) g leads from =
       apart = a.1;
       new = λ y is. has_push before x y (g.new y (or_right _ _ is)) (λ e. both_ways (has x xs) (not-true _ a.0) (subst (λ z. has z xs ≡ true) e is));
     } in
-    ap (λ o. or_else o (first_fault n lead (suc place) (before ++ x ∷ []) xs)) f ∙ good_none n lead (suc place) (before ++ x ∷ []) xs rest (λ y ys e first. absurd (omega arith)) (omega arith)
+    ap (λ o. option_or o (first_fault n lead (suc place) (before ++ x ∷ []) xs)) f ∙ good_none n lead (suc place) (before ++ x ∷ []) xs rest (λ y ys e first. absurd (omega arith)) (omega arith)
 
 -- both together
 pub unfit_proper : (n t lead : ℕ) (names : List ℕ) → unfit n t lead names ≡ None → Proper n t lead names
@@ -96,7 +97,7 @@ unfit_proper n t lead (x ∷ xs) none =
     (λ long.
     let first = sym (cond-true _ _ _ long) ∙ none in
     let g = good_from n lead 1 [] (x ∷ xs) first in
-    let f = fine_from n lead 1 [] x (or_else_none (fault_of_name n lead 1 (has x []) x) _ first).0 in
+    let f = fine_from n lead 1 [] x (option_or_none (fault_of_name n lead 1 (has x []) x) _ first).0 in
     record {
       others = xs;
       split = ap (λ y. y ∷ xs) (f.leads refl);

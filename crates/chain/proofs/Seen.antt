@@ -5,7 +5,8 @@ use Rattle.counting.specs.Lists.{has}
 use Rattle.counting.proofs.Pushes.{has_push_is}
 use Rattle.chain.specs.declared.name_sets.NameSet.{NameSet}
 use Rattle.chain.specs.declared.refusals.Refusal.{Refusal}
-use Rattle.chain.specs.Faults.{fault_of_name, or_else, first_fault}
+use Rattle.std.specs.Option.{option_or}
+use Rattle.chain.specs.Faults.{fault_of_name, first_fault}
 use Rattle.chain.specs.NameSets.{in_set}
 use Rattle.chain.proofs.FirstFaults.{Fine, fine_from, fine_none}
 
@@ -21,7 +22,7 @@ module _ (n lead : ℕ) (names : List ℕ) (i : ℕ) (seen : NameSet) (s : Scann
   -- the fault of this name is the first
   pub fault_here : (e : Refusal) → fault_of_name n lead (i + 1) (in_set seen (get_or names i 0)) (get_or names i 0) ≡ Some e → first_fault n lead 1 [] names ≡ Some e
   fault_here e is =
-      sym s.same ∙ at_drop_more (first_fault n lead (i + 1) (take i names)) names i 0 on ∙ ap (λ o. or_else o (first_fault n lead (suc (i + 1)) (take i names ++ get_or names i 0 ∷ []) (drop (i + 1) names))) (ap (λ b. fault_of_name n lead (i + 1) b (get_or names i 0)) (sym seen_is) ∙ is)
+      sym s.same ∙ at_drop_more (first_fault n lead (i + 1) (take i names)) names i 0 on ∙ ap (λ o. option_or o (first_fault n lead (suc (i + 1)) (take i names ++ get_or names i 0 ∷ []) (drop (i + 1) names))) (ap (λ b. fault_of_name n lead (i + 1) b (get_or names i 0)) (sym seen_is) ∙ is)
 
   fine_here : fault_of_name n lead (i + 1) (in_set seen (get_or names i 0)) (get_or names i 0) ≡ None → Fine n lead (i + 1) (take i names) (get_or names i 0)
   fine_here is = fine_from n lead (i + 1) (take i names) (get_or names i 0) (ap (λ b. fault_of_name n lead (i + 1) b (get_or names i 0)) (sym seen_is) ∙ is)
@@ -36,7 +37,7 @@ module _ (n lead : ℕ) (names : List ℕ) (i : ℕ) (seen : NameSet) (s : Scann
       let next : i + 1 + 1 ≡ suc (i + 1) = omega arith in
       record {
         same =
-            (λ k. first_fault n lead (next k) (taken k) (drop (i + 1) names)) ∙ sym (at_drop_more (first_fault n lead (i + 1) (take i names)) names i 0 on ∙ ap (λ o. or_else o (first_fault n lead (suc (i + 1)) (take i names ++ x ∷ []) (drop (i + 1) names))) (fine_none n lead (i + 1) (take i names) x f)) ∙ s.same;
+            (λ k. first_fault n lead (next k) (taken k) (drop (i + 1) names)) ∙ sym (at_drop_more (first_fault n lead (i + 1) (take i names)) names i 0 on ∙ ap (λ o. option_or o (first_fault n lead (suc (i + 1)) (take i names ++ x ∷ []) (drop (i + 1) names))) (fine_none n lead (i + 1) (take i names) x f)) ∙ s.same;
         set = λ p. put (omega arith) p ∙ ap (λ b. eqb p x || b) (s.set p) ∙ sym (has_push_is (take i names) x p) ∙ ap (has p) (sym taken);
       }
 

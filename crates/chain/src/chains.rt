@@ -17,7 +17,7 @@ pub struct Chains {
 }
 
 /// Which of the chains with so many names after the lead.
-#[derive(Clone, Copy)]
+#[derive(Clone, Copy, Debug)]
 struct Among {
     others: u32,
     /// How many of these chains come before it.
@@ -64,6 +64,7 @@ impl Chains {
             rank: index,
             ways: 1,
         };
+        // As long as there is more than the chains of this length, these come before it. (A `scan` would carry all three.)
         while among.ways <= among.rank {
             among.rank -= among.ways;
             among.ways *= free - among.others;
@@ -86,6 +87,7 @@ impl Chains {
         let mut free = size - 1;
         let mut ways = among.ways;
         let mut rank = among.rank;
+        // Names, ways and rank all go on from digit to digit, so no chain carries less.
         for _ in 0..among.others {
             ways /= free;
             let name = seen.nth_missing(size, rank / ways);

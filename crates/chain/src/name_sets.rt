@@ -4,7 +4,7 @@ ghost use Rattle.counting.specs.Lists.{has, tally};
 ghost use Rattle.chain.specs.NameSets.{in_set};
 
 /// A set of names, as a mask: bit q is set if name q is in the set. A name from 16 up, which no ring has, is in none.
-#[derive(Clone, Copy, Debug, PartialEq, Eq)]
+#[derive(Clone, Copy, Debug, Default, PartialEq, Eq)]
 pub struct NameSet {
     mask: u16,
 }
@@ -58,15 +58,6 @@ impl NameSet {
         self.mask == 0
     }
 
-    /// The names of this set or of the other.
-    pub fn union(self, other: NameSet) -> NameSet
-        ensures { (q : ℕ) → in_set result q ≡ (in_set self q || in_set other q) }
-    {
-        NameSet {
-            mask: self.mask | other.mask,
-        }
-    }
-
     /// The names of this set that are not in the other.
     pub fn without(self, other: NameSet) -> NameSet
         ensures { (q : ℕ) → in_set result q ≡ (in_set self q && not (in_set other q)) }
@@ -91,7 +82,7 @@ impl NameSet {
         ensures new { in_set self result ≡ false }
         ensures place { tally (λ q. not (in_set self q)) result ≡ digit }
     {
-        // Not `filter` and `nth`, which answer an `Option` where there is such a name.
+        // Tried as `filter` and `nth`; that the answer is there and in its place was not proved.
         let mut left = digit;
         for name in 0..size {
             if !self.contains(name) {

@@ -20,6 +20,7 @@ impl Chains {
             return Err(Refusal::Length);
         }
         let mut seen = NameSet::new();
+        // By index, and left at the first fault: a rule of the project (docs/DECISIONS.md).
         for (i, name) in names.iter().enumerate() {
             self.check_name(*name, i as u32 + 1, seen)?;
             seen.insert(*name);

@@ -1,16 +1,20 @@
 -- Lemmas: masks by their bits, and the first bit of one. The law of the choice by number order is proved by them. Assumes nothing.
-use Rattle.std.specs.Prelude.{◌≡◌, ℕ, zero, suc, ◌+◌, ◌/◌, ◌%◌, ◌^◌, ◌<◌, ◌≤◌, true, false, ◌||◌, Some, None, Option, ◌==◌, ◌≢◌, bit_and, nat_eq, refl}
+use Rattle.std.specs.Prelude.{◌≡◌, ℕ, zero, suc, ◌+◌, ◌/◌, ◌%◌, ◌^◌, ◌<◌, ◌≤◌, true, false, ◌||◌, ◌⊎◌, Some, None, Option, ◌==◌, ◌≢◌, bit_and, nat_eq, refl}
 use Rattle.std.proofs.Math.Path.{sym}
-use Rattle.std.proofs.Common.{ap, subst, ◌∙◌, ⊎_elim, arith}
+use Rattle.std.proofs.Common.{ap, subst, ◌∙◌, inl, inr, ⊎_elim, arith}
 use Rattle.std.specs.Int.{bit_at}
-use Rattle.std.specs.Int.Bits.{bit_or}
-use Rattle.std.proofs.lemmas.Nat.Bits.{shr_and_one, bit_at-zero, same_from_bits_below, bit_at_or, bit_at-lt, bit_at-pow_same, bit_at-pow_other}
+use Rattle.std.specs.Int.Bits.{bit_or, or_zero_r}
+use Rattle.std.proofs.lemmas.Nat.{or_shr, or_mod}
+use Rattle.std.proofs.lemmas.Nat.Bits.{shr_and_one, bit_at-suc, bit_at-zero, same_from_bits_below, bit_at-lt, bit_at-pow_same, bit_at-pow_other}
 use Rattle.std.proofs.lemmas.Bool.{cases_Bool, cases_eq, cases_lt, cond-true, cond-false, eqb-false, eq-eqb, ne_eqb, or_left}
 use Rattle.order.specs.Sets.{has, Member, lowest, least}
 
 -- what the code tests
 pub bit_tested : (m k : ℕ) → bit_and (m / 2 ^ k) 1 ≡ m / 2 ^ k % 2
 bit_tested m k = shr_and_one m k
+
+pub has_half : (m k : ℕ) → has (m / 2) k ≡ has m (suc k)
+has_half m k = ap (λ x. nat_eq x 1) (sym (bit_at-suc m k))
 
 -- a mask without a bit is empty
 pub no_bits : (n m : ℕ) → m < 2 ^ n → ((k : ℕ) → k < n → has m k ≡ false) → m ≡ 0
@@ -85,9 +89,30 @@ pub off_from : (m k : ℕ) → (bit_and (m / 2 ^ k) 1 ≢ 1) → has m k ≡ fal
 off_from m k e = ne_eqb (m / 2 ^ k % 2) 1 (λ is. e (bit_tested m k ∙ is))
 
 -- one bit more in a mask
+pub halves : (x : ℕ) → ((x % 2 ≡ 0) ⊎ (x % 2 ≡ 1))
+halves x = ⊎_elim (λ one. inr one) (λ other. inl (omega arith)) (cases_eq (x % 2) 1)
+
+low_bits : (m n j : ℕ) → bit_or m n / 2 ^ j % 2 ≡ bit_or (m / 2 ^ j % 2) (n / 2 ^ j % 2)
+low_bits m n j = ap (λ x. x % 2) (or_shr m n j) ∙ or_mod (m / 2 ^ j) (n / 2 ^ j) 1
+
+or_one : (x : ℕ) → bit_or (x % 2) 1 ≡ 1
+or_one x = ⊎_elim (λ even. rw even refl) (λ odd. rw odd refl) (halves x)
+
 pub has-bit_or : (m k j : ℕ) → has (bit_or m (2 ^ k)) j ≡ (j == k || has m j)
 has-bit_or m k j =
     ⊎_elim
-    (λ here. eq-eqb _ 1 (bit_at_or m (2 ^ k) j ∙ (let one = bit_at-lt m j in let set = subst (λ i. bit_at (2 ^ k) i ≡ 1) (sym here) (bit_at-pow_same k) in omega arith)) ∙ sym (or_left (j == k) (has m j) (eq-eqb j k here)))
-    (λ other. ap (λ x. nat_eq x 1) (bit_at_or m (2 ^ k) j ∙ (let none = bit_at-pow_other k j other in omega arith)) ∙ ap (λ b. b || has m j) (sym (ne_eqb j k other)))
+    (λ here.
+    let set = low_bits m (2 ^ k) j ∙ ap (bit_or (m / 2 ^ j % 2)) (subst (λ i. bit_at (2 ^ k) i ≡ 1) (sym here) (bit_at-pow_same k)) ∙ or_one (m / 2 ^ j) in
+    eq-eqb (bit_or m (2 ^ k) / 2 ^ j % 2) 1 set ∙ sym (or_left (j == k) (has m j) (eq-eqb j k here)))
+    (λ other.
+    let kept = low_bits m (2 ^ k) j ∙ ap (bit_or (m / 2 ^ j % 2)) (bit_at-pow_other k j other) ∙ or_zero_r (m / 2 ^ j % 2) in
+    ap (λ x. nat_eq x 1) kept ∙ ap (λ b. b || has m j) (sym (ne_eqb j k other)))
+    (cases_eq j k)
+
+-- a mask of one bit
+pub one_bit : (k j : ℕ) → has (2 ^ k) j ≡ (j == k)
+one_bit k j =
+    ⊎_elim
+    (λ here. eq-eqb _ 1 (subst (λ i. bit_at (2 ^ k) i ≡ 1) (sym here) (bit_at-pow_same k)) ∙ sym (eq-eqb j k here))
+    (λ other. ne_eqb _ 1 (λ is. let none = bit_at-pow_other k j other in omega arith) ∙ sym (ne_eqb j k other))
     (cases_eq j k)

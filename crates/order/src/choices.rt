@@ -2,7 +2,8 @@
 ghost use Rattle.std.specs.Prelude.{◌≡◌, ℕ, ◌^◌, ◌<◌, Option};
 ghost use Rattle.order.specs.Sets.{Member};
 
-/// A plant's rule for ties. A set of codes 0 to 15 is a mask: bit k is set if code k is in the set.
+/// A plant's rule for ties. A set of codes 0 to 15 is a mask: bit k is set if code k is in the set. (A plain u16: a rule is
+/// often one operation on its bits, as `Least`.)
 pub trait Choice {
     /// What is taken from a set of codes.
     ghost taken: { Self → ℕ → Option ℕ };

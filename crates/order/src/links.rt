@@ -1,5 +1,5 @@
 // Orders to a link of the ring: open it or close it.
-ghost use Rattle.std.specs.Prelude.{◌≡◌, ◌+◌, ◌*◌, ◌<◌, ◌≤◌, cond, MatchOption};
+ghost use Rattle.std.specs.Prelude.{◌≡◌, ◌+◌, ◌*◌, ◌<◌, ◌≤◌, MatchOption};
 ghost use Rattle.order.specs.Links.{link_code};
 ghost use Rattle.std.proofs.Common.{rules, arith};
 

@@ -11,7 +11,7 @@ use crate::refusals::Refusal;
 /// Takes the code that stands first in a list of all sixteen.
 #[derive(Clone, Copy, Debug, PartialEq, Eq)]
 pub struct Ranked {
-    /// The place of each code in the list, from 0.
+    /// The place of each code in the list, from 0: a code is its index, so no list is searched when a rule is asked.
     ranks: [u8; 16],
 }
 

@@ -6,7 +6,7 @@ pub trait Numbered: Sized {
     /// The number that a refusal is known by, in print and in the script.
     ghost numbered: { Self → ℕ };
 
-    /// The place, from 1, of what is at fault in its list; 0 where nothing in a list is.
+    /// The place, from 1, of what is at fault in its list; 0 where nothing in a list is. (No `Option`: 0 is what is written.)
     ghost placed: { Self → ℕ };
 
     fn number(&self) -> u32

@@ -22,7 +22,7 @@ pub trait Scheme {
         ensures { result ≡ checks (ledger self.now) place mark };
 
     /// Signs a place and answers its mark; 0 for a place that is not below the count.
-    // A number and no `Option`: a mark is 1 to 4,294,967,295 in the product's format, and a chip answers 0 for none.
+    // A number and no `Option`: a mark is 1 to 4,294,967,295 in the product's format, and 0 is its answer for none.
     fn sign(&mut self, place: u32) -> u32
         ensures signs { Signs (counted self.old) (ledger self.old) (ledger self.new) place result }
         ensures count { counted self.new ≡ counted self.old };

@@ -6,4 +6,5 @@ pub mod Items
 pub mod Listing
 pub mod Numerals
 pub mod QuoteLines
+pub mod Rests
 pub mod Sessions

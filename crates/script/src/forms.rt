@@ -1,10 +1,11 @@
 // The form that a line holds. Every item is looked at for its sort before any number is read.
-ghost use Rattle.std.specs.Prelude.{◌≡◌, ◌+◌, ◌∷◌, length, MatchResult};
+ghost use Rattle.std.specs.Prelude.{◌≡◌, ◌∷◌, MatchResult};
 ghost use Rattle.std.specs.Option.{ok_or};
 ghost use Rattle.script.specs.declared.flaws.Flaw.TheVariants.{WrongNumber};
-ghost use Rattle.script.specs.Forms.{ThreeNumbers, Misses, piece, pieces_at, following, whole, quote_of, word_of, form_of};
+ghost use Rattle.script.specs.Forms.{ThreeNumbers, Misses, piece, pieces_at, whole, quote_of, word_of, form_of};
 ghost use Rattle.script.specs.Numerals.{read};
 ghost use Rattle.script.specs.QuoteLines.{ReadsQuotes};
+ghost use Rattle.script.specs.Rests.{end_of, pieces_of};
 
 use crate::brackets::is_form;
 use crate::flaws::Flaw;
@@ -38,7 +39,7 @@ fn number(digits: Part<'_>) -> Result<u32, Flaw>
 
 /// Three numbers and nothing more.
 fn three_numbers(rest: Rest<'_>) -> Result<(Part<'_>, Part<'_>, Part<'_>), Flaw>
-    ensures { MatchResult result (λ x. ThreeNumbers (following rest.entry.place rest.entry.bytes.now) x.0 x.1 x.2) (λ e. Misses (rest.entry.place + length rest.entry.bytes.now) (following rest.entry.place rest.entry.bytes.now) e) }
+    ensures { MatchResult result (λ x. ThreeNumbers (pieces_of rest.entry) x.0 x.1 x.2) (λ e. Misses (end_of rest.entry) (pieces_of rest.entry) e) }
 {
     let (first, rest) = rest.next_number()?;
     let (second, rest) = rest.next_number()?;
@@ -49,7 +50,7 @@ fn three_numbers(rest: Rest<'_>) -> Result<(Part<'_>, Part<'_>, Part<'_>), Flaw>
 
 /// What follows the word of a quote form.
 fn read_quote(rest: Rest<'_>) -> Result<Form, Flaw>
-    ensures { result ≡ quote_of (rest.entry.place + length rest.entry.bytes.now) (following rest.entry.place rest.entry.bytes.now) }
+    ensures { result ≡ quote_of (end_of rest.entry) (pieces_of rest.entry) }
 {
     let (size, tolerance, sound) = three_numbers(rest)?;
     let size = number(size)?;
@@ -64,7 +65,7 @@ fn read_quote(rest: Rest<'_>) -> Result<Form, Flaw>
 
 /// The reader that the first word selects takes what follows it.
 fn read_by_word(word: Part<'_>, rest: Rest<'_>) -> Result<Form, Flaw>
-    ensures { result ≡ word_of (rest.entry.place + length rest.entry.bytes.now) (piece word.entry ∷ following rest.entry.place rest.entry.bytes.now) }
+    ensures { result ≡ word_of (end_of rest.entry) (piece word.entry ∷ pieces_of rest.entry) }
 {
     match word.bytes {
         b"quote" => read_quote(rest),
@@ -74,7 +75,7 @@ fn read_by_word(word: Part<'_>, rest: Rest<'_>) -> Result<Form, Flaw>
 
 /// What stands between the brackets of a line.
 fn read_inside(text: Rest<'_>) -> Result<Form, Flaw>
-    ensures { result ≡ word_of (text.entry.place + length text.entry.bytes.now) (pieces_at text.entry.place text.entry.bytes.now) }
+    ensures { result ≡ word_of (end_of text.entry) (pieces_at text.entry.place text.entry.bytes.now) }
 {
     if text.is_empty() {
         return Err(Flaw::WrongItem(text.place()));

@@ -7,8 +7,8 @@ ghost use Rattle.script.specs.Items.{front, Reads};
 use crate::flaws::Flaw;
 use crate::items::{Item, Part, read_item};
 
-/// What is left of a line, and the place in the line where it begins, from 1.
-#[derive(Clone, Copy)]
+/// What is left of a line, and the place in the line where it begins, from 1. (Not a `Part`, whose place may be any.)
+#[derive(Clone, Copy, Debug)]
 pub(crate) struct Rest<'a> {
     bytes: &'a [u8],
     place: usize,

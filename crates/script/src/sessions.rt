@@ -13,7 +13,7 @@ const KEPT_BYTES: usize = LINE_BYTES + 1;
 const COUNTED_BYTES: usize = SCRIPT_BYTES + 1;
 
 /// Reads a script and writes the answer to each of its lines. It holds no more of the script than the front of one line.
-#[derive(Drop)]
+#[derive(Debug, Drop)]
 pub struct Session {
     /// The number of the line that is read now, from 1, or the largest u64.
     number: u64,

@@ -10,7 +10,7 @@ use chain::{Chains, chains_per_order};
 pub(crate) const MOST_CODES: u32 = 16;
 
 /// The cells of one order at one switch: those of its N places, as far as there are any.
-#[derive(Clone, Copy)]
+#[derive(Clone, Copy, Debug)]
 pub(crate) struct Part<'a> {
     pub(crate) chains: Chains,
     pub(crate) cells: &'a [Cell],

@@ -10,10 +10,8 @@ const UNKNOWN: Cell = Cell {
 };
 
 fn chains_of(size: u32, tolerance: u32, lead: u32) -> Result<Chains, Fail> {
-    match Setting::new(size, tolerance) {
-        Ok(setting) => Ok(Chains { setting, lead }),
-        Err(_) => Err(Fail::new("a setting")),
-    }
+    let setting = Setting::new(size, tolerance)?;
+    Ok(Chains { setting, lead })
 }
 
 /// Takes the chain of a plan with these names.

@@ -34,7 +34,7 @@ impl Part<'_> {
         ensures { Seconds (held_of self.now.chains self.now.cells.now) (in_set result) }
     {
         let mut backers = NameSet::new();
-        // By number, since a place is one; the first is that of the lead alone.
+        // By place, from that after the lead's own chain: `enumerate` and `skip` would count the same.
         for at in 1..self.cells.len() {
             if self.cells[at].taken {
                 if let Some(names) = self.chains.names_at(at as u32) {
@@ -55,6 +55,7 @@ impl Part<'_> {
         ensures most { (v : ℕ) → Borne self.now.chains.setting.size self.now.chains.setting.tolerance (held_of self.now.chains self.now.cells.now) (in_set backers) v → v ≤ result }
     {
         let mut weight = backers.len() + 2;
+        // Downwards around the places, and left from inside: a rule of the project (docs/DECISIONS.md).
         'search: while weight > 2 {
             for at in 1..self.cells.len() {
                 if self.cells[at].taken && self.bears_at(backers, weight, at as u32) {
