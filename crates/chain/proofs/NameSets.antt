@@ -1,11 +1,11 @@
 -- Sets of names by the bits of their masks, and how many names they have. Assumes nothing.
-use Rattle.std.proofs.Common.{◌≡◌, ℕ, zero, suc, ◌+◌, ◌-◌, ◌*◌, ◌/◌, ◌%◌, ◌^◌, ◌<◌, ◌≤◌, Bool, true, false, cond, not, ◌&&◌, ◌||◌, eqb, ltb, List, length, get_or, take, refl, min, max, w16, sym, ap, ◌∙◌, ⊎_elim, arith, pow_pos}
+use Rattle.std.proofs.Common.{◌≡◌, ℕ, zero, suc, ◌+◌, ◌-◌, ◌*◌, ◌/◌, ◌%◌, ◌^◌, ◌<◌, ◌≤◌, Bool, true, false, cond, not, ◌&&◌, ◌||◌, eqb, ltb, List, length, get_or, take, refl, min, w16, sym, ap, ◌∙◌, ⊎_elim, arith, pow_pos}
 use mathlib.Core.Bool.{and-true, and-false}
 use lib.Bits.{bit_and, bit_or, and_le_r}
 use lib.Count.{ones, ones_step, ones-le}
 use Rattle.std.specs.Int.{bit_at, bit_not, trailing_zeros}
 use Rattle.std.proofs.lemmas.Nat.{pow-add, one_shl}
-use Rattle.std.proofs.lemmas.Nat.Bits.{bit_at-lt, bit_at-suc, bit_at_lowest, bit_at_above, bit_at_and, bit_at_or, bit_at_not, bit_at_ones, bit_at-trailing_zeros}
+use Rattle.std.proofs.lemmas.Nat.Bits.{bit_at-lt, bit_at-suc, bit_at_lowest, bit_at_above, bit_at_and, bit_at_not, bit_at_ones, bit_at-trailing_zeros}
 use Rattle.std.proofs.lemmas.Bool.{cases_Bool, cases_lt, ne_eqb, eq-eqb, eqb-true, eqb-false, lt-ltb, ltb-true, and_left}
 use Rattle.std.proofs.lemmas.Bool.Decides.{nat_tests}
 use Rattle.std.proofs.lemmas.List.{take_more}
@@ -16,9 +16,6 @@ use Rattle.order.specs.Sets.{has as in_mask}
 use Rattle.order.specs.Masks.{has-bit_or}
 use Rattle.chain.specs.declared.name_sets.NameSet.{NameSet}
 use Rattle.chain.specs.NameSets.{in_set}
-
-max_test : (x y : ℕ) → x < 2 → y < 2 → eqb (max x y) 1 ≡ (eqb x 1 || eqb y 1)
-max_test x y low low' = grind (arith, nat_tests)
 
 min_test : (x y : ℕ) → x < 2 → y < 2 → eqb (min x y) 1 ≡ (eqb x 1 && eqb y 1)
 min_test x y low low' = grind (arith, nat_tests)
@@ -37,9 +34,6 @@ some_bit m low some =
 
 pub put_bit : (m x : ℕ) → x < 16 → (q : ℕ) → in_mask (bit_or m ((1 * 2 ^ x) % 2 ^ 16)) q ≡ (eqb q x || in_mask m q)
 put_bit m x low q = ap (λ b. in_mask (bit_or m b) q) (one_shl x 16 low) ∙ has-bit_or m x q
-
-pub or_bit : (a b q : ℕ) → in_mask (bit_or a b) q ≡ (in_mask a q || in_mask b q)
-or_bit a b q = ap (λ x. eqb x 1) (bit_at_or a b q) ∙ max_test _ _ (bit_at-lt a q) (bit_at-lt b q)
 
 and_bit : (a b q : ℕ) → in_mask (bit_and a b) q ≡ (in_mask a q && in_mask b q)
 and_bit a b q = ap (λ x. eqb x 1) (bit_at_and a b q) ∙ min_test _ _ (bit_at-lt a q) (bit_at-lt b q)

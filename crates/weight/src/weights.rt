@@ -34,7 +34,8 @@ impl Part<'_> {
         ensures { Seconds (held_of self.now.chains self.now.cells.now) (in_set result) }
     {
         let mut backers = NameSet::new();
-        // By place, from that after the lead's own chain: `enumerate` and `skip` would count the same.
+        // By place, from that after the lead's own chain: `enumerate` and `skip` would count the same. Nested, since a chain of
+        // `let`s tells a proof nothing where one fails.
         for at in 1..self.cells.len() {
             if self.cells[at].taken {
                 if let Some(names) = self.chains.names_at(at as u32) {
