@@ -87,7 +87,7 @@ impl Chains {
         let mut free = size - 1;
         let mut ways = among.ways;
         let mut rank = among.rank;
-        // Names, ways and rank all go on from digit to digit, so no chain carries less.
+        // Names, set, ways, rank and what is free all go on from digit to digit.
         for _ in 0..among.others {
             ways /= free;
             let name = seen.nth_missing(size, rank / ways);

@@ -16,11 +16,11 @@ impl Chains {
         ensures proper { MatchResult result (λ _. IsChain self.now names.now) (λ _. IsChain self.now names.now → ⊥) }
         ensures grows { OnOk result (Grows self.now.setting.size self.now.setting.tolerance self.now.lead names.now) }
     {
-        if names.is_empty() || names.len() > self.setting.tolerance() as usize + 1 {
+        if !(1..=self.setting.tolerance() as usize + 1).contains(&names.len()) {
             return Err(Refusal::Length);
         }
         let mut seen = NameSet::new();
-        // By index, and left at the first fault: a rule of the project (docs/DECISIONS.md).
+        // By index, and left at the first fault: a form that was asked for (docs/DECISIONS.md, 45).
         for (i, name) in names.iter().enumerate() {
             self.check_name(*name, i as u32 + 1, seen)?;
             seen.insert(*name);

@@ -43,7 +43,7 @@ impl Chains {
         let mut seen = NameSet::of(&[self.lead]);
         let mut free = self.setting.size() - 1;
         let mut rank = 0;
-        // A `fold` would carry three numbers and the set.
+        // A `fold` would carry two numbers and the set.
         for name in rest {
             rank = rank * free + seen.missing_below(*name);
             seen.insert(*name);

@@ -24,7 +24,7 @@ impl Numbered for Refusal {
         }
     }
 
-    /// A list is refused as a whole.
+    /// A list is refused as a whole; a case that is not has to say its place here.
     fn position(&self) -> usize {
         match self {
             Refusal::List => 0,

@@ -27,7 +27,7 @@ impl Numbered for Refusal {
         }
     }
 
-    /// None of these is about a list.
+    /// None of these is about a list; a case that is one day has to say its place here.
     fn position(&self) -> usize {
         match self {
             Refusal::Count | Refusal::Lines => 0,

@@ -63,7 +63,7 @@ fn read_quote(rest: Rest<'_>) -> Result<Form, Flaw>
     })
 }
 
-/// The reader that the first word selects takes what follows it.
+/// The reader that the first word selects takes what follows it. (Matched against literals: docs/DECISIONS.md, 45.)
 fn read_by_word(word: Part<'_>, rest: Rest<'_>) -> Result<Form, Flaw>
     ensures { result ≡ word_of (end_of rest.entry) (piece word.entry ∷ pieces_of rest.entry) }
 {

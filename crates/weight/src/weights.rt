@@ -56,7 +56,7 @@ impl Part<'_> {
         ensures most { (v : ℕ) → Borne self.now.chains.setting.size self.now.chains.setting.tolerance (held_of self.now.chains self.now.cells.now) (in_set backers) v → v ≤ result }
     {
         let mut weight = backers.len() + 2;
-        // Downwards around the places, and left from inside: a rule of the project (docs/DECISIONS.md).
+        // Downwards around the places, and left from inside: a form that was asked for (docs/DECISIONS.md, 45).
         'search: while weight > 2 {
             for at in 1..self.cells.len() {
                 if self.cells[at].taken && self.bears_at(backers, weight, at as u32) {
