@@ -4,7 +4,7 @@ ghost use Rattle.counting.specs.Lists.{has, tally};
 ghost use Rattle.chain.specs.NameSets.{in_set};
 
 /// A set of names, as a mask: bit q is set if name q is in the set. A name from 16 up, which no ring has, is in none.
-#[derive(Clone, Copy, Debug, Default, PartialEq, Eq)]
+#[derive(Clone, Copy, Debug, PartialEq, Eq)]
 pub struct NameSet {
     mask: u16,
 }

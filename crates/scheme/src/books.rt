@@ -1,5 +1,5 @@
 // A scheme that keeps the signed places in lines.
-ghost use Rattle.std.specs.Prelude.{◌≡◌, ℕ, ◌+◌, ◌-◌, ◌<◌, ◌≤◌, ◌⊎◌, true, length, take, slice_index, position, ◌==◌, Some, None, IfOk, MatchOption, MatchResult};
+ghost use Rattle.std.specs.Prelude.{◌≡◌, ℕ, ◌+◌, ◌-◌, ◌<◌, ◌≤◌, ◌⊎◌, true, length, take, slice_index, position, ◌==◌, Some, None, MatchOption, MatchResult};
 ghost use Rattle.counting.specs.Lists.{distinct, below};
 ghost use Rattle.scheme.specs.Counts.{unfit};
 
@@ -25,18 +25,21 @@ pub struct Book<'a> {
 impl<'a> Book<'a> {
     ghost use Rattle.scheme.specs.Books.{marks, NextLine};
 
-    /// A scheme of `count` places with none signed, over lines that may hold anything. No line is written.
-    pub fn new(lines: &'a mut [u32], count: u32) -> Result<Book<'a>, Refusal>
-        ensures cases { MatchResult result (λ _. unfit count (length lines.old) ≡ None) (λ e. unfit count (length lines.old) ≡ Some e) }
-        ensures empty { IfOk result (λ book. (book.count ≡ count) × (book.used ≡ 0)) }
-        ensures lines { IfOk result (λ book. book.lines.now ≡ lines.old) }
+    /// A scheme of `count` places with none signed, over lines that may hold anything. No line is written, and a refusal
+    /// hands the lines back.
+    pub fn new(lines: &'a mut [u32], count: u32) -> Result<Book<'a>, (&'a mut [u32], Refusal)>
+        ensures cases { MatchResult result (λ book. (unfit count (length lines.old) ≡ None) × (book.count ≡ count) × (book.used ≡ 0)) (λ e. unfit count (length lines.old) ≡ Some e.1) }
+        ensures same { MatchResult result (λ book. book.lines.now ≡ lines.old) (λ e. e.0.now ≡ lines.old) }
+        ensures lent { MatchResult result (λ book. book.lines.ghost_name ≡ lines.entry.ghost_name) (λ e. e.0.ghost_name ≡ lines.entry.ghost_name) }
     {
-        check_fit(count, lines.len())?;
-        Ok(Book {
-            lines,
-            used: 0,
-            count,
-        })
+        match check_fit(count, lines.len()) {
+            Ok(()) => Ok(Book {
+                lines,
+                used: 0,
+                count,
+            }),
+            Err(refusal) => Err((lines, refusal)),
+        }
     }
 
     /// A book without places, over lines that may hold anything.

@@ -20,13 +20,20 @@ fn a_book_numbers_its_lines(rt: HostRuntime) {
 #[test]
 fn a_book_is_made_in_one_step(rt: HostRuntime) -> Result<(), Fail> {
     let mut lines = [7; 4];
-    assert_eq!(rt; Book::new(&mut lines, 0).err(), Some(Refusal::Count));
-    assert_eq!(rt; Book::new(&mut lines, 5).err(), Some(Refusal::Lines));
-    let mut book = Book::new(&mut lines, 4)?;
+    let Err((back, refusal)) = Book::new(&mut lines, 0) else {
+        return Err(Fail::new("no book has no places"));
+    };
+    assert_eq!(rt; refusal, Refusal::Count);
+    let Err((back, refusal)) = Book::new(back, 5) else {
+        return Err(Fail::new("four lines are too few for five places"));
+    };
+    assert_eq!(rt; refusal.number(), 12);
+    let Ok(mut book) = Book::new(back, 4) else {
+        return Err(Fail::new("four lines do for four places"));
+    };
     assert_eq!(rt; (book.count(), book.entries()), (4, 0));
     assert_eq!(rt; book.sign(3), 1);
     assert!(rt; book.check(3, 1) && !book.check(7, 2));
-    assert_eq!(rt; Refusal::Lines.number(), 12);
     Ok(())
 }
 
