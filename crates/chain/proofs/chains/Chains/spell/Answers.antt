@@ -9,6 +9,9 @@ loop-init c =
     let low = c.requires.leads in
     spelling_none _ _ _ _ _ _ _ c.of_lead-names.ensures c.of-seen.ensures (omega arith) c.size-size.ensures.most (c.requires.all ∙ sym (ap (λ n. ways (n - 1) c.args.among.others) is)) c.requires.below
 
+pub nonzero_div-ways : goal.nonzero_div-ways
+nonzero_div-ways c = free_some _ _ _ _ _ _ _ _ _ _ c.loop.invariant c.loop-test.true
+
 pub nonzero_div-rank : goal.nonzero_div-rank
 nonzero_div-rank c = divided_some _ _ _ _ _ _ _ _ _ _ c.loop.invariant c.loop-test.true
 
