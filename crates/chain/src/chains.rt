@@ -94,7 +94,7 @@ impl Chains {
             let name = seen.nth_missing(size, rank / ways);
             rank %= ways;
             names.push(name);
-            seen.insert(name);
+            seen.add(name);
             free -= 1;
         }
         names
