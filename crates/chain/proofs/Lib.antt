@@ -1,3 +1,4 @@
+mod NameLists
 mod NameSets
 mod Bounds
 mod Examples

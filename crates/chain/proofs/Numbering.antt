@@ -258,7 +258,7 @@ code_bound n t code codes low few small =
     omega arith
 
 -- a chain taken apart, as the lead and the rest of the slice
-put_together : (names : List ℕ) → 1 ≤ length names → get_or names 0 0 ∷ take (length names - 1) (drop 1 names) ≡ names
+pub put_together : (names : List ℕ) → 1 ≤ length names → get_or names 0 0 ∷ take (length names - 1) (drop 1 names) ≡ names
 put_together [] some = absurd (omega arith)
 put_together (x ∷ xs) some = ap (λ l. x ∷ l) (take_all (length (x ∷ xs) - 1) xs (omega arith))
 

@@ -1,6 +1,7 @@
 pub mod Chains
 pub mod Examples
 pub mod Faults
+pub mod NameLists
 pub mod NameSets
 pub mod OfRing
 pub mod Places

@@ -1,5 +1,6 @@
 // The chains of a ring, and the one at a place.
 ghost use Rattle.std.specs.Prelude.{◌≡◌, ℕ, ◌+◌, ◌-◌, ◌/◌, ◌<◌, ◌≤◌, List, [], ◌∷◌, IfSome, MatchOption};
+ghost use Rattle.chain.specs.NameLists.{names_of};
 ghost use Rattle.chain.specs.OfRing.{many, IsChain, place_in};
 ghost use Rattle.chain.specs.Ranks.{ways, shorter, spelled};
 
@@ -30,8 +31,8 @@ impl Chains {
     /// The chain of a place: its order and its names. None if no chain has this place, which is so from K × N up, where the
     /// code has no value in the kind of order, and where the lead is not of the ring.
     pub fn at<O: Order>(&self, place: u32) -> Option<(O, Names)>
-        ensures chain { IfSome result (λ c. IsChain self.now c.1 × (place_in self.now (O.Order.coded c.0) c.1 ≡ place)) }
-        ensures back { (v : O) (names : List ℕ) → IsChain self.now names → place_in self.now (O.Order.coded v) names ≡ place → MatchOption result ⊥ (λ c. (c.0 ≡ v) × (c.1 ≡ names)) }
+        ensures chain { IfSome result (λ c. IsChain self.now (names_of c.1) × (place_in self.now (O.Order.coded c.0) (names_of c.1) ≡ place)) }
+        ensures back { (v : O) (names : List ℕ) → IsChain self.now names → place_in self.now (O.Order.coded v) names ≡ place → MatchOption result ⊥ (λ c. (c.0 ≡ v) × (names_of c.1 ≡ names)) }
     {
         let chains = chains_per_order(&self.setting);
         let names = self.names_at(place)?;
@@ -41,7 +42,7 @@ impl Chains {
 
     /// The names of the chain of a place, whatever its order. None exactly if the lead is not of the ring.
     pub fn names_at(&self, place: u32) -> Option<Names>
-        ensures { MatchOption result (self.now.setting.size ≤ self.now.lead) (λ names. IsChain self.now names × (place_in self.now (place / many self.now.setting) names ≡ place)) }
+        ensures { MatchOption result (self.now.setting.size ≤ self.now.lead) (λ names. IsChain self.now (names_of names) × (place_in self.now (place / many self.now.setting) (names_of names) ≡ place)) }
     {
         if self.lead >= self.setting.size() {
             return None;
@@ -79,7 +80,7 @@ impl Chains {
         requires few { among.others ≤ self.now.setting.tolerance }
         requires all { among.ways ≡ ways (self.now.setting.size - 1) among.others }
         requires below { among.rank < among.ways }
-        ensures { result ≡ self.now.lead ∷ spelled self.now.setting.size (self.now.setting.size - 1) (self.now.lead ∷ []) among.others among.rank }
+        ensures { names_of result ≡ self.now.lead ∷ spelled self.now.setting.size (self.now.setting.size - 1) (self.now.lead ∷ []) among.others among.rank }
     {
         let size = self.setting.size();
         let mut names = Names::of_lead(self.lead);
@@ -93,7 +94,7 @@ impl Chains {
             let name = seen.nth_missing(size, rank / ways);
             rank %= ways;
             names.push(name);
-            seen.insert(name);
+            seen.add(name);
             free -= 1;
         }
         names

@@ -1,39 +1,26 @@
 // The names of a chain as a value of their own.
-ghost use Rattle.std.specs.Prelude.{◌≡◌, ◌+◌, ◌<◌, ◌≤◌, [], ◌∷◌, ◌++◌, length};
-
-use std::marker::Model;
+ghost use Rattle.std.specs.Prelude.{◌≡◌, ◌-◌, ◌≤◌, length, drop, replicate};
 
 /// The names of a chain, the lead's first. They are kept inside, so no memory is asked for. (The kit's `ArrayVec` can't be
-/// copied.)
+/// copied; with an `impl Model` this could be, but no tuple, option or struct that holds it.)
 #[derive(Clone, Copy, Debug, PartialEq, Eq)]
 pub struct Names {
     /// The names, and zeros after them.
     list: [u32; 12],
     count: usize,
-}
-
-impl Model for Names {
-    ghost use Rattle.std.specs.Prelude.{◌≡◌, ◌-◌, ◌≤◌, ℕ, List, ◌++◌, length, take, drop, replicate};
-    ghost use Rattle.std.proofs.Common.{arith, ap, sym, ◌∙◌, take-append-drop, length-take-le};
-
-    ghost Value = { List ℕ };
-
-    ghost view = { λ s. take s.count s.list };
-
-    ghost invariant = { λ s. (s.count ≤ 12) × (length s.list ≡ 12) × (drop s.count s.list ≡ replicate (12 - s.count) 0) };
-
-    ghost inverse = { λ names. record { list = names ++ replicate (12 - length names) 0; count = length names } };
-
-    ghost inverse_ok = { λ s h i. record {
-      list = (ap (λ n. take s.count s.list ++ replicate (12 - n) 0) (λ k. length-take-le s.count s.list (omega (arith, h.0, h.1)) k) ∙ ap (λ zeros. take s.count s.list ++ zeros) (sym h.2) ∙ (λ k. take-append-drop s.count s.list k)) i;
-      count = length-take-le s.count s.list (omega (arith, h.0, h.1)) i;
-    } };
+    ghost few: { count ≤ 12 },
+    ghost full: { length list ≡ 12 },
+    ghost zeros: { drop count list ≡ replicate (12 - count) 0 },
 }
 
 impl Names {
+    ghost use Rattle.std.specs.Prelude.{◌≡◌, ◌<◌, ◌≤◌, [], ◌∷◌, ◌++◌, length};
+    ghost use Rattle.chain.specs.declared.lists.Names.{Names};
+    ghost use Rattle.chain.specs.NameLists.{names_of};
+
     /// The chain of the lead alone.
     pub(crate) fn of_lead(lead: u32) -> Names
-        ensures { result ≡ lead ∷ [] }
+        ensures { names_of result ≡ lead ∷ [] }
     {
         let mut list = [0; 12];
         list[0] = lead;
@@ -41,16 +28,18 @@ impl Names {
     }
 
     pub(crate) fn push(&mut self, name: u32)
-        requires { length self.old < 12 }
-        ensures { self.new ≡ self.old ++ name ∷ [] }
+        requires { length (names_of self.old) < 12 }
+        ensures { names_of self.new ≡ names_of self.old ++ name ∷ [] }
     {
         self.list[self.count] = name;
         self.count += 1;
     }
 
+    /// Values with the same names are one value.
     pub fn as_slice(&self) -> &[u32]
-        ensures value { result.now ≡ self.now }
+        ensures value { result.now ≡ names_of self.now }
         ensures short { length result.now ≤ 12 }
+        ensures same { (other : Names) → names_of other ≡ names_of self.now → other ≡ self.now }
     {
         &self.list[..self.count]
     }

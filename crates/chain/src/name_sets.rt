@@ -31,7 +31,15 @@ impl NameSet {
     pub fn contains(self, name: u32) -> bool
         ensures { result ≡ in_set self name }
     {
-        name < 16 && self.mask >> name & 1 == 1
+        name < 16 && self.has(name)
+    }
+
+    /// Whether the set has a name that is known to be below 16, as those of a ring are, which spares a test.
+    pub(crate) fn has(self, name: u32) -> bool
+        requires { name < 16 }
+        ensures { result ≡ in_set self name }
+    {
+        self.mask >> name & 1 == 1
     }
 
     pub fn insert(&mut self, name: u32)
@@ -39,8 +47,16 @@ impl NameSet {
         ensures high { 16 ≤ name → self.new ≡ self.old }
     {
         if name < 16 {
-            self.mask |= 1 << name;
+            self.add(name);
         }
+    }
+
+    /// Puts in a name that is known to be below 16.
+    pub(crate) fn add(&mut self, name: u32)
+        requires { name < 16 }
+        ensures { (q : ℕ) → in_set self.new q ≡ (q == name || in_set self.old q) }
+    {
+        self.mask |= 1 << name;
     }
 
     /// How many names are in the set.
@@ -77,7 +93,8 @@ impl NameSet {
 
     /// The name below `size` that is not in the set and has `digit` such names below it.
     pub(crate) fn nth_missing(self, size: u32, digit: u32) -> u32
-        requires { digit < tally (λ q. not (in_set self q)) size }
+        requires small { size ≤ 16 }
+        requires enough { digit < tally (λ q. not (in_set self q)) size }
         ensures low { result < size }
         ensures new { in_set self result ≡ false }
         ensures place { tally (λ q. not (in_set self q)) result ≡ digit }
@@ -85,7 +102,7 @@ impl NameSet {
         // Tried as `filter` and `nth`; that the answer is there and in its place was not proved.
         let mut left = digit;
         for name in 0..size {
-            if !self.contains(name) {
+            if !self.has(name) {
                 if left == 0 {
                     return name;
                 }

@@ -46,7 +46,7 @@ impl Chains {
         // A `fold` would carry two numbers and the set.
         for name in rest {
             rank = rank * free + seen.missing_below(*name);
-            seen.insert(*name);
+            seen.add(*name);
             free -= 1;
         }
         rank

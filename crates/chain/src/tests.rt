@@ -79,6 +79,23 @@ fn every_place_leads_back(rt: HostRuntime) -> Result<(), Fail> {
     Ok(())
 }
 
+/// Takes a chain whole, so that a caller who keeps it has to copy it.
+fn length_of(chain: (Plan, Names)) -> usize {
+    let (_, names) = chain;
+    names.as_slice().len()
+}
+
+#[test]
+fn what_holds_names_is_copied(rt: HostRuntime) -> Result<(), Fail> {
+    let chain: Option<(Plan, Names)> = chains_in_four(0)?.at(36);
+    let Some(held) = chain else {
+        return Err(Fail::new("the chain of a place"));
+    };
+    assert_eq!(rt; length_of(held), 3);
+    assert_eq!(rt; length_of(held), 3);
+    Ok(())
+}
+
 #[test]
 fn sets_of_names(rt: HostRuntime) {
     let mut backers = NameSet::of(&[3, 1, 3, 16]);

@@ -1,4 +1,5 @@
 use Rattle.std.proofs.Common.{◌/◌, sym, ap, ◌∙◌}
+use Rattle.chain.specs.NameLists.{names_of}
 use Rattle.chain.specs.Places.{place_of}
 use Rattle.chain.proofs.FirstFaults.{some_none}
 use Rattle.chain.proofs.Numbering.{apart, code_of}
@@ -15,7 +16,7 @@ returns g c =
     let n = c.args.self.now.setting.size in
     let t = c.args.self.now.setting.tolerance in
     let place = c.args.place in
-    let names = c.in_ok-names.names in
+    let names = names_of c.in_ok-names.names in
     let chain = c.in_ok-names.ensures in
     let code = c.in_ok-order.ensures.has ∙ ap (λ z. place / z) c.chains_per_order-chains.ensures.value in
     let there = ap (λ z. place_of n t z names) code ∙ chain.1 in

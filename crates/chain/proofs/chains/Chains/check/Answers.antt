@@ -18,7 +18,7 @@ returns-in_err-check_name c =
     rw (p.1, p.2) (record { value = told.0; proper = told.1; grows = tt })
 
 pub loop-i-preserved : goal.loop-i-preserved
-loop-i-preserved c = one_more _ _ _ _ _ c.loop-i.invariant c.loop-i-test.true _ c.in_ok-check_name.ensures c.args.self.now.setting.most c.insert.ensures.put
+loop-i-preserved c = one_more _ _ _ _ _ c.loop-i.invariant c.loop-i-test.true _ c.in_ok-check_name.ensures c.args.self.now.setting.most (λ _. c.add.ensures)
 
 pub returns : goal.returns
 returns c =

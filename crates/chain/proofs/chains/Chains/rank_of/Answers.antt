@@ -17,4 +17,4 @@ pub overflow_sub-free-in-loop-name : goal.overflow_sub-free-in-loop-name
 overflow_sub-free-in-loop-name c = free_some _ _ _ _ _ _ _ c.loop-name.invariant c.loop-name-test.true
 
 pub loop-name-preserved : goal.loop-name-preserved
-loop-name-preserved c = next_ranking _ _ _ _ _ _ _ c.loop-name.invariant c.loop-name-test.true _ c.missing_below.ensures _ c.args.self.now.setting.most c.insert.ensures.put
+loop-name-preserved c = next_ranking _ _ _ _ _ _ _ c.loop-name.invariant c.loop-name-test.true _ c.missing_below.ensures _ c.args.self.now.setting.most (λ _. c.add.ensures)

@@ -2,6 +2,7 @@ use Rattle.std.proofs.Common.{◌≡◌, ◌+◌, not, ◌&&◌, leb, sym, ◌�
 use Rattle.std.proofs.lemmas.Bool.{leb-true, leb-false}
 use Rattle.counting.specs.Lists.{has, tally}
 use Rattle.chain.proofs.Numbering.{same_names}
+use Rattle.chain.specs.NameLists.{names_of}
 use Rattle.chain.specs.NameSets.{in_set}
 use Rattle.weight.specs.Weights.{hidden, Bears}
 use Rattle.weight.proofs.HeldChains.{place_is_within}
@@ -11,7 +12,7 @@ pub returns-in-Some : goal.returns-in-Some
 returns-in-Some c =
     let n = c.args.self.now.chains.setting.size in
     let t = c.args.self.now.chains.setting.tolerance in
-    let names = c.in-Some.names in
+    let names = names_of c.in-Some.names in
     let chain = c.in-Some.ensures in
     let here = place_is_within n t c.args.self.now.chains.lead c.args.at names chain.0 c.requires.there chain.1 in
     let bearing = subst (λ l. c.bears.result ≡ leb c.args.weight (2 + tally (λ q. in_set c.args.backers q && not (has q (hidden t c.args.weight l))) n)) c.as_slice.ensures.value c.bears.ensures in

@@ -1,5 +1,6 @@
 use Rattle.std.proofs.Common.{◌+◌, take, drop, ap, ◌∙◌, sym, subst, arith}
 use Rattle.chain.proofs.Numbering.{per_order_bound}
+use Rattle.chain.specs.NameLists.{names_of}
 use Rattle.chain.specs.declared.name_sets.NameSet.{NameSet}
 use Rattle.weight.proofs.Gathering.{Gathered, gathered_none, gathered_skip, gathered_outside, gathered_second, gathered_alone, gathered_all}
 use Rattle.weight.proofs.HeldChains.{place_is_within}
@@ -31,14 +32,14 @@ loop-at-preserved c =
     elim c.if-self-at.branch [
       | then-self-at+in-Some+in-Some-second_of w ↦
           let chain = w.in-Some.ensures in
-          let here = place_is_within n t lead at w.in-Some.names chain.0 (omega arith) chain.1 in
+          let here = place_is_within n t lead at (names_of w.in-Some.names) chain.0 (omega arith) chain.1 in
           let second = sym (ap (λ l. take 1 (drop 1 l)) w.as_slice.ensures.value) ∙ w.in-Some-second_of.ensures in
-          subst next (sym w.backers-is) (gathered_second n t lead part at c.loop-at.backers w.in-Some.names chain.0 small here w.if-self-at.true g _ _ second w.insert.ensures.put)
+          subst next (sym w.backers-is) (gathered_second n t lead part at c.loop-at.backers (names_of w.in-Some.names) chain.0 small here w.if-self-at.true g _ _ second w.insert.ensures.put)
       | then-self-at+in-Some+in_default-second_of w ↦
           let chain = w.in-Some.ensures in
-          let here = place_is_within n t lead at w.in-Some.names chain.0 (omega arith) chain.1 in
+          let here = place_is_within n t lead at (names_of w.in-Some.names) chain.0 (omega arith) chain.1 in
           let none = sym (ap (λ l. take 1 (drop 1 l)) w.as_slice.ensures.value) ∙ w.in_default-second_of.ensures in
-          subst next (sym w.backers-is) (gathered_alone n t lead part at c.loop-at.backers w.in-Some.names chain.0 small here w.if-self-at.true g none)
+          subst next (sym w.backers-is) (gathered_alone n t lead part at c.loop-at.backers (names_of w.in-Some.names) chain.0 small here w.if-self-at.true g none)
       | then-self-at+in_default w ↦ subst next (sym w.backers-is) (gathered_outside n t lead part at c.loop-at.backers w.in_default.ensures g)
       | else-self-at w ↦ subst next (sym w.backers-is) (gathered_skip n t lead part at c.loop-at.backers w.if-self-at.false g)
     ]
