@@ -15,7 +15,7 @@ pub struct Ranked {
     ranks: [u8; 16],
 }
 
-/// The first place of each code that a list of sixteen has, from 0. Where it lacks a code, another stands at that place.
+/// The first place of each code that a list of sixteen has, from 0; of a code that it lacks, some place of another.
 fn first_places(list: &[u32]) -> [u8; 16]
     requires { length list.now ≡ 16 }
     ensures { FirstPlaces list.now result }
