@@ -1,4 +1,4 @@
-mod NameLists
+pub mod NameLists
 mod NameSets
 mod Bounds
 mod Examples

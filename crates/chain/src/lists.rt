@@ -2,7 +2,7 @@
 ghost use Rattle.std.specs.Prelude.{◌≡◌, ◌-◌, ◌≤◌, length, drop, replicate};
 
 /// The names of a chain, the lead's first. They are kept inside, so no memory is asked for. (The kit's `ArrayVec` can't be
-/// copied; with an `impl Model` this could be, but no tuple, option or struct that holds it.)
+/// copied. And no `impl Model`: what holds such a value can't be passed by value and used again.)
 #[derive(Clone, Copy, Debug, PartialEq, Eq)]
 pub struct Names {
     /// The names, and zeros after them.

@@ -16,7 +16,7 @@ impl Chains {
         ensures proper { MatchResult result (λ _. IsChain self.now names.now) (λ _. IsChain self.now names.now → ⊥) }
         ensures grows { OnOk result (Grows self.now.setting.size self.now.setting.tolerance self.now.lead names.now) }
     {
-        // Not `contains` of a range: with it the scan below takes half as many steps again (docs/DESIGN-PASS.md).
+        // Not `contains` of a range: with it the scan below is compiled to a quarter more steps (docs/DESIGN-PASS.md).
         if names.is_empty() || names.len() > self.setting.tolerance() as usize + 1 {
             return Err(Refusal::Length);
         }

@@ -1,7 +1,7 @@
 // The choice by a plant's own list.
 ghost use Rattle.std.specs.Prelude.{◌≡◌, ℕ, ◌<◌, ◌≤◌, true, length, IfSome, Some, MatchResult, slice_index};
 ghost use Rattle.order.specs.declared.refusals.Refusal.TheVariants as refusal;
-ghost use Rattle.order.specs.Rankings.{EachOnce, First, Ranks, ranked, beats};
+ghost use Rattle.order.specs.Rankings.{EachOnce, FirstPlaces, Ranks, ranked, beats};
 ghost use Rattle.order.specs.Sets.{has};
 ghost use Rattle.order.specs.Earliest.{ranked_member};
 
@@ -15,13 +15,20 @@ pub struct Ranked {
     ranks: [u8; 16],
 }
 
-/// The first place of a code in a list, from 0. Refuses a list that lacks it.
-fn first_place(list: &[u32], code: u32) -> Result<usize, Refusal>
-    requires { code < 16 }
-    ensures { MatchResult result (First list.now code) (λ e. (e ≡ refusal.List) × (EachOnce list.now → ⊥)) }
+/// The first place of each code that a list of sixteen has, from 0; of a code that it lacks, some place of another.
+fn first_places(list: &[u32]) -> [u8; 16]
+    requires { length list.now ≡ 16 }
+    ensures { FirstPlaces list.now result }
 {
-    let place = list.iter().position(|listed| *listed == code);
-    place.ok_or(Refusal::List)
+    let mut ranks = [0; 16];
+    // From the last place to the first, which is then the one that stays: one pass, and no number that stands for none.
+    for place in (0..16).rev() {
+        let code = list[place];
+        if code < 16 {
+            ranks[code as usize] = place as u8;
+        }
+    }
+    ranks
 }
 
 impl Ranked {
@@ -32,9 +39,11 @@ impl Ranked {
         if list.len() != 16 {
             return Err(Refusal::List);
         }
-        let mut ranks = [0; 16];
-        for (code, rank) in ranks.iter_mut().enumerate() {
-            *rank = first_place(list, code as u32)? as u8;
+        let ranks = first_places(list);
+        for (code, rank) in ranks.iter().enumerate() {
+            if list[*rank as usize] != code as u32 {
+                return Err(Refusal::List);
+            }
         }
         Ok(Ranked { ranks })
     }

@@ -1,4 +1,4 @@
-use Rattle.std.proofs.Common.{◌≡◌, ◌+◌, ◌-◌, ◌<◌, length, length-take-le, drop, replicate, ap, sym, ◌∙◌, length-set, arith}
+use Rattle.std.proofs.Common.{◌≡◌, ◌+◌, ◌-◌, ◌<◌, length-take-le, drop, replicate, ap, sym, ◌∙◌, length-set, arith}
 use Rattle.std.proofs.lemmas.List.{drop-drop, drop-set-lt, drop-replicate}
 use Rattle.chain.proofs.lists.Names.push.Goals as goal
 
