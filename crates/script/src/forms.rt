@@ -98,11 +98,8 @@ pub fn read_form(line: &[u8], last: usize) -> Result<Form, Flaw>
     ensures value { result ≡ form_of last line.now }
     ensures quotes { ReadsQuotes last line.now result }
 {
-    if !is_whole(line, last) {
-        return Err(Flaw::NotAForm);
-    }
     match Rest::inside(line) {
-        Some(text) => read_inside(text),
-        None => Err(Flaw::NotAForm),
+        Some(text) if is_whole(line, last) => read_inside(text),
+        _ => Err(Flaw::NotAForm),
     }
 }

@@ -8,8 +8,8 @@ pub returns-in-Some : goal.returns-in-Some
 returns-in-Some c =
     let text = c.in-Some.ensures in
     let end : c.in-Some.text.place + length c.in-Some.text.bytes.now ≡ length c.args.line.now = omega arith in
-    let is = c.read_inside.ensures ∙ (λ k. word_of (end k) (pieces_at (text.place.0 k) (text.bytes k))) ∙ sym (cond-true _ _ _ (sym c.is_whole.ensures ∙ c.if-not-is_whole.false)) in
+    let is = c.read_inside.ensures ∙ (λ k. word_of (end k) (pieces_at (text.place.0 k) (text.bytes k))) ∙ sym (cond-true _ _ _ (sym c.if-is_whole.ensures)) in
     record { value = is; quotes = reads_quotes _ _ _ is }
 
-pub returns-then-not-is_whole-clause-quotes : goal.returns-then-not-is_whole-clause-quotes
-returns-then-not-is_whole-clause-quotes c = reads_quotes _ _ _ (sym (cond-false _ _ _ (sym c.is_whole.ensures ∙ c.if-not-is_whole.true)))
+pub returns-in_default-clause-quotes : goal.returns-in_default-clause-quotes
+returns-in_default-clause-quotes c = reads_quotes _ _ _ (sym (cond-false _ _ _ (sym c.if-is_whole.ensures)))
